@@ -1,0 +1,9 @@
+-- Laws that the other crates' proofs cite.
+pub mod Maps
+pub mod Tables
+pub mod Zeros
+pub mod Parts
+pub mod Fill
+pub mod Scan
+pub mod Finite
+pub mod Bits

@@ -1,0 +1,61 @@
+-- The invariant of every loop that looks for the first entry of a list that fails a test.
+use mathlib.Core.Path.{_≡_, refl, sym, ap, _∙_}
+use mathlib.Core.Bool.{Bool, true, false, cond}
+use mathlib.Core.List.{List, [], _∷_}
+use Prim.Native.Nat.{ℕ, zero, suc, _+_, _<_, _≤_}
+use native.Mathlib.Nat.{zero-add}
+use native.Mathlib.Numerals.{add-one}
+use native.Mathlib.Omega.{arith}
+use lib.ListN.{length, getD, drop}
+use lib.Seq.{drop-cons, drop-length}
+use Rattle.lists.specs.First.{firstFailing}
+
+-- the first i entries of xs pass
+pub record Passed (good : ℕ → Bool) (xs : List ℕ) (i : ℕ) : Type 0 where
+  pub within : i ≤ length xs
+  pub left : firstFailing good xs ≡ i + firstFailing good (drop i xs)
+
+pub passed-none : (good : ℕ → Bool) (xs : List ℕ) → Passed good xs 0
+passed-none good xs = record { within = omega arith; left = sym (zero-add _) }
+
+pub passed-more : {good : ℕ → Bool} {xs : List ℕ} {i : ℕ} → Passed good xs i → i < length xs → good (getD xs i 0) ≡ true → Passed good xs (i + 1)
+unfolding firstFailing
+passed-more {good} {xs} {i} p h g =
+    let e : firstFailing good (drop i xs) ≡ suc (firstFailing good (drop (i + 1) xs)) = rw (drop-cons xs i 0 h, g, add-one) in
+    record { within = omega arith; left = omega (arith, p .left, e) }
+
+-- the entry at i fails
+pub passed-stop : {good : ℕ → Bool} {xs : List ℕ} {i : ℕ} → Passed good xs i → i < length xs → good (getD xs i 0) ≡ false → i ≡ firstFailing good xs
+unfolding firstFailing
+passed-stop {good} {xs} {i} p h g =
+    let e : firstFailing good (drop i xs) ≡ 0 = rw (drop-cons xs i 0 h, g) in
+    omega (arith, p .left, e)
+
+pub passed-all : {good : ℕ → Bool} {xs : List ℕ} {i : ℕ} → Passed good xs i → length xs ≤ i → i ≡ firstFailing good xs
+unfolding firstFailing
+passed-all {good} {xs} {i} p h =
+    let n : i ≡ length xs = omega (arith, p .within) in
+    let e : firstFailing good (drop i xs) ≡ 0 = rw (n, drop-length) in
+    omega (arith, p .left, e)
+
+-- ---- what is known of the entries before the first that fails
+
+pub first-within : (good : ℕ → Bool) (xs : List ℕ) → firstFailing good xs ≤ length xs
+unfolding firstFailing
+first-within good [] = omega arith
+first-within good (x ∷ xs) = either (good x) (first-within good xs)
+  where
+    either : (t : Bool) → firstFailing good xs ≤ length xs → cond t (suc (firstFailing good xs)) 0 ≤ suc (length xs)
+    either true h = omega arith
+    either false h = omega arith
+
+pub before-first : (good : ℕ → Bool) (xs : List ℕ) (k : ℕ) → k < firstFailing good xs → good (getD xs k 0) ≡ true
+unfolding firstFailing
+before-first good [] k h = absurd (omega arith)
+before-first good (x ∷ xs) k h = at k (before-first good xs) (good x) refl h
+  where
+    at : (k : ℕ) → ((j : ℕ) → j < firstFailing good xs → good (getD xs j 0) ≡ true) → (t : Bool) → good x ≡ t
+        → k < cond t (suc (firstFailing good xs)) 0 → good (getD (x ∷ xs) k 0) ≡ true
+    at zero rest true e l = e
+    at (suc j) rest true e l = rest j (omega arith)
+    at j rest false e l = absurd (omega arith)

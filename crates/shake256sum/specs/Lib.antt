@@ -1,0 +1,2 @@
+-- What the contracts of `shake256sum` cite.
+pub mod Line
