@@ -4,8 +4,8 @@ use mathlib.Core.List.{List, [], _∷_, _++_, append-assoc}
 use Prim.Native.Nat.{ℕ, zero, suc, _+_, _-_, _<_, _≤_}
 use native.Mathlib.Numerals.{add-one}
 use native.Mathlib.Omega.{arith}
-use lib.ListN.{length, getD, take, drop, set, length-append, length-take, length-drop, length-set}
-use lib.Seq.{take-suc, take-suc-set, take-all, take-add, take-at, drop-drop, length-take-le, take-length, set-at, append-snoc}
+use lib.ListN.{length, getD, take, drop, set, take-append-drop, length-append, length-take, length-drop, length-set}
+use lib.Seq.{getD-take, take-set-le, take-set-lt, drop-set-add, drop-set-lt, take-suc, take-suc-set, take-all, take-add, take-at, drop-drop, length-take-le, take-length, set-at, append-snoc}
 use Rattle.lists.specs.Table.{table, zeros}
 use Rattle.lists.proofs.Tables.{length-table, getD-table}
 
@@ -58,6 +58,35 @@ module _ {A : Type 0} where
   pub filled-more-by : {n : ℕ} (g : ℕ → A) {out : List A} {i : ℕ} {v : A} (d : A) → Filled n (table n g) out i → i < n → v ≡ g i
       → Filled n (table n g) (set out i v) (i + 1)
   filled-more-by {n} g {out} {i} {v} d f h e = filled-more d f h (e ∙ sym (getD-table n g i d h))
+
+-- an entry that is filled already
+pub filled-at : {A : Type 0} {n : ℕ} {s out : List A} {i : ℕ} (d : A) (k : ℕ) → Filled n s out i → k < i → getD out k d ≡ getD s k d
+filled-at {out = out} {i = i} d k f h =
+    sym (getD-take i out k d h) ∙ ap (λ l. getD l k d) (f .same) ∙ getD-take i _ k d h
+
+-- The first i entries of `low` and of `high` stand at the fronts of the two halves of `out`, h entries each.
+pub record FilledHalves {A : Type 0} (h : ℕ) (low high out : List A) (i : ℕ) : Type 0 where
+  pub first : Filled h low (take h out) i
+  pub second : Filled h high (drop h out) i
+
+module _ {A : Type 0} where
+  pub filled-halves-none : (h : ℕ) (low high out : List A) → length low ≡ h → length high ≡ h → length out ≡ h + h → FilledHalves h low high out 0
+  filled-halves-none h low high out l g e = record {
+    first = filled-none low (take h out) l (length-take-le h out (omega arith));
+    second = filled-none high (drop h out) g (length-drop h out ∙ omega arith);
+  }
+
+  -- one entry more in each half
+  pub filled-halves-more : {h : ℕ} {low high out : List A} {i : ℕ} {x y : A} (d : A) → FilledHalves h low high out i → i < h
+      → x ≡ getD low i d → y ≡ getD high i d → FilledHalves h low high (set (set out i x) (h + i) y) (i + 1)
+  filled-halves-more {h} {low} {high} {out} {i} {x} {y} d f l e g = record {
+    first = rw (take-set-le h (set out i x) (h + i) y (omega arith), take-set-lt h out i x l) (filled-more d (f .first) l e);
+    second = rw (drop-set-add h (set out i x) i y, drop-set-lt h out i x l) (filled-more d (f .second) l g);
+  }
+
+  pub filled-halves-all : {h : ℕ} {low high out : List A} {i : ℕ} → FilledHalves h low high out i → h ≤ i → out ≡ low ++ high
+  filled-halves-all {h} {out = out} f l =
+      sym (take-append-drop h out) ∙ ap₂ (λ (a b : List A). a ++ b) (filled-all (f .first) l) (filled-all (f .second) l)
 
 -- The first i entries of s, then zeros, n entries in all: the invariant of a loop that writes s into an array of zeros that may be longer.
 pub record ZeroFilled (n : ℕ) (s out : List ℕ) (i : ℕ) : Type 0 where

@@ -38,7 +38,7 @@ passed-all {good} {xs} {i} p h =
     let e : firstFailing good (drop i xs) ≡ 0 = rw (n, drop-length) in
     omega (arith, p .left, e)
 
--- ---- what is known of the entries before the first that fails
+-- ---- what `firstFailing` finds
 
 pub first-within : (good : ℕ → Bool) (xs : List ℕ) → firstFailing good xs ≤ length xs
 unfolding firstFailing
@@ -59,3 +59,25 @@ before-first good (x ∷ xs) k h = at k (before-first good xs) (good x) refl h
     at zero rest true e l = e
     at (suc j) rest true e l = rest j (omega arith)
     at j rest false e l = absurd (omega arith)
+
+-- every entry passes, so none is found
+pub first-none : (good : ℕ → Bool) (xs : List ℕ) → ((i : ℕ) → i < length xs → good (getD xs i 0) ≡ true) → firstFailing good xs ≡ length xs
+unfolding firstFailing
+first-none good [] h = refl
+first-none good (x ∷ xs) h = rw (h 0 (omega arith)) (ap suc (first-none good xs (λ i l. h (suc i) (omega arith))))
+
+-- none is found, so every entry passes
+pub first-passes : (good : ℕ → Bool) (xs : List ℕ) → length xs ≤ firstFailing good xs → (i : ℕ) → i < length xs → good (getD xs i 0) ≡ true
+first-passes good xs e i h = before-first good xs i (omega arith)
+
+-- what is found fails
+pub first-fails : (good : ℕ → Bool) (xs : List ℕ) → firstFailing good xs < length xs → good (getD xs (firstFailing good xs) 0) ≡ false
+unfolding firstFailing
+first-fails good [] h = absurd (omega arith)
+first-fails good (x ∷ xs) h = by (good x) refl h (first-fails good xs)
+  where
+    by : (b : Bool) → good x ≡ b → cond b (suc (firstFailing good xs)) 0 < suc (length xs)
+        → (firstFailing good xs < length xs → good (getD xs (firstFailing good xs) 0) ≡ false)
+        → good (getD (x ∷ xs) (cond b (suc (firstFailing good xs)) 0) 0) ≡ false
+    by true p h rest = rest (omega arith)
+    by false p h rest = p

@@ -101,3 +101,12 @@ pub zipWith-table {ℓ κ μ} : {A : Type ℓ} {B : Type κ} {C : Type μ} (h : 
 unfolding zipWith
 zipWith-table h zero f g = rw (table-zero, table-zero)
 zipWith-table h (suc n) f g = rw (table-cons, table-cons, table-cons) (cons refl (zipWith-table h n (λ k. f (suc k)) (λ k. g (suc k))))
+
+-- ---- the two halves of a table
+
+pub drop-table {ℓ} : {A : Type ℓ} (m n : ℕ) (f : ℕ → A) → drop m (table (m + n) f) ≡ table n (λ j. f (m + j))
+drop-table m n f = rw (table-append m n f) (drop-at (table m f) (table n (λ j. f (m + j))) m (length-table m f))
+
+pub zipWith-halves {ℓ κ} : {A : Type ℓ} {C : Type κ} (g : A → A → C) (m : ℕ) (f : ℕ → A)
+    → zipWith g (take m (table (m + m) f)) (drop m (table (m + m) f)) ≡ table m (λ i. g (f i) (f (m + i)))
+zipWith-halves g m f = ap₂ (zipWith g) (take-table m (m + m) f (omega arith)) (drop-table m m f) ∙ zipWith-table g m f (λ i. f (m + i))

@@ -1,0 +1,4 @@
+-- Laws that the other crates' proofs cite.
+pub mod Prime
+pub mod Products
+pub mod Reciprocals

@@ -1,0 +1,15 @@
+-- The ring and its laws.
+pub mod RingLaws
+pub mod Sizes
+-- Centred values, residues and remainders.
+pub mod Integers
+pub mod Centring
+pub mod RemainderLaws
+-- The worked examples.
+pub mod WorkedExamples
+-- For the proofs of the functions: signed values, scans, the heap of products.
+pub mod Signed
+pub mod Scans
+pub mod Heaps
+-- Products and inverses by the transform.
+pub mod Transforms

@@ -1,0 +1,67 @@
+use mathlib.Core.Path.{_≡_, refl, sym, _∙_}
+use Prim.Native.Nat.{_*_, _-_}
+use native.Mathlib.Omega.{arith}
+use lib.ListN.{length, drop, length-drop}
+use lib.Seq.{getD-drop}
+use borrow.Author.Needs.{needs}
+use Rattle.lists.proofs.Fill.{Filled, filled-none, filled-more, filled-all}
+use Rattle.ring.specs.Ring.{n}
+use Rattle.ring.proofs.lower_half.Statement.{statement}
+use Rattle.ring.proofs.lower_half.Tie as tie
+
+abbrev Inv-loop : tie.InvT-loop
+Inv-loop h r₀ i₀ r i = Filled n (drop n h) r i
+
+abbrev μ-loop : tie.MeasureT-loop
+μ-loop h r₀ i₀ r i = n - i
+
+loop-holds : tie.Need-loop-holds Inv-loop μ-loop
+loop-holds c =
+    let size : length (c .args .t1) ≡ 2 * n = search needs in
+    filled-none (drop n (c .args .t1)) _ (length-drop n (c .args .t1) ∙ omega arith) refl
+
+add-r : tie.Need-add-r Inv-loop μ-loop
+add-r c = search needs
+
+mul-r : tie.Need-mul-r Inv-loop μ-loop
+mul-r c = search needs
+
+array-read-r : tie.Need-array-read-r Inv-loop μ-loop
+array-read-r c = search needs
+
+mul-r-2 : tie.Need-mul-r-2 Inv-loop μ-loop
+mul-r-2 c = search needs
+
+array-write-r : tie.Need-array-write-r Inv-loop μ-loop
+array-write-r c = search needs
+
+add-i : tie.Need-add-i Inv-loop μ-loop
+add-i c = search needs
+
+loop-less : tie.Need-loop-less Inv-loop μ-loop
+loop-less c = search needs
+
+loop-again : tie.Need-loop-again Inv-loop μ-loop
+loop-again c =
+    let at = c .before in
+    filled-more 0 (at .loop .inv) (c .loop-test .taken) (sym (getD-drop n (at .before .args .t1) (at .loop .i) 0))
+
+returns : tie.Need-returns Inv-loop μ-loop
+returns c = filled-all (c .before .loop .inv) (c .loop-test .left)
+
+pub lower-half-spec : {M : Type 1} → statement M
+lower-half-spec =
+    tie.close
+    (tie.spec
+    Inv-loop
+    μ-loop
+    loop-holds
+    add-r
+    mul-r
+    array-read-r
+    mul-r-2
+    array-write-r
+    add-i
+    loop-less
+    loop-again
+    returns)

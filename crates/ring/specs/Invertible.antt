@@ -1,0 +1,19 @@
+-- Whether an element has an inverse, and the inverse.
+use mathlib.Core.List.{List}
+use Prim.Native.Nat.{ℕ}
+use Rattle.lists.specs.Table.{zeros}
+use Rattle.algebra.proofs.Negacyclic as N
+use Rattle.modq.proofs.Prime.{q-positive, negacyclic-root}
+use Rattle.ring.specs.Ring.{n, Invertible}
+
+-- decided for every list, with the inverse as witness
+pub invertible? : (b : List ℕ) → Dec (Invertible b)
+invertible? b = N.invertible? q-positive negacyclic-root b
+
+abbrev pub witness : (b : List ℕ) → Dec (Invertible b) → List ℕ
+witness b (yes i) = i .0
+witness b (no none) = zeros n
+
+-- the inverse of b; 1,024 zeros where there is none
+unfoldable pub inverseOf : List ℕ → List ℕ
+inverseOf b = witness b (invertible? b)

@@ -1,0 +1,283 @@
+// The ring of document 01: polynomials with coefficients modulo q = 59,393 and X^1024 = - 1, as arrays of 1,024 words by value.
+// Every word is taken as its residue modulo q, and the public functions are total. A result is built up from 1,024 zeros.
+ghost use mathlib.Core.Path.{_≡_};
+ghost use lib.ListN.{drop};
+ghost use mathlib.Core.Bool.{decide};
+ghost use Rattle.ntt.specs.Factors.{forwardFactors, backwardFactors};
+ghost use Rattle.ring.specs.Ring.{n, fifth, one, sum, difference, multiple, product};
+ghost use Rattle.ring.specs.Invertible.{invertible?, inverseOf};
+ghost use Rattle.ring.specs.Centred.{centred, residue, centredRemainder, remainderOf, remainders, near?, within?};
+ghost use Rattle.ring.specs.Reciprocals.{hasZero, reciprocalsOf};
+ghost use Rattle.ring.specs.Heap.{Heap, Inverses};
+
+// ---- sums and multiples
+
+pub fn one() -> [u16; 1024]
+    ensures { λ r. ⌜ r ≡ one ⌝ }
+{
+    let mut r = [0u16; 1024];
+    r[0] = 1;
+    r
+}
+
+pub fn sum(a: [u16; 1024], b: [u16; 1024]) -> [u16; 1024]
+    ensures { λ r. ⌜ r ≡ sum a b ⌝ }
+{
+    let mut r = [0u16; 1024];
+    for k in 0..1024 {
+        r[k] = modq::add(a[k], b[k]);
+    }
+    r
+}
+
+pub fn difference(a: [u16; 1024], b: [u16; 1024]) -> [u16; 1024]
+    ensures { λ r. ⌜ r ≡ difference a b ⌝ }
+{
+    let mut r = [0u16; 1024];
+    for k in 0..1024 {
+        r[k] = modq::sub(a[k], b[k]);
+    }
+    r
+}
+
+// c × a.
+pub fn multiple(c: u16, a: [u16; 1024]) -> [u16; 1024]
+    ensures { λ r. ⌜ r ≡ multiple c a ⌝ }
+{
+    let mut r = [0u16; 1024];
+    for k in 0..1024 {
+        r[k] = modq::mul(c, a[k]);
+    }
+    r
+}
+
+pub fn times5(a: [u16; 1024]) -> [u16; 1024]
+    ensures { λ r. ⌜ r ≡ multiple 5 a ⌝ }
+{
+    multiple(5, a)
+}
+
+// Document 01's division by 5: 35,636 is the reciprocal of 5.
+pub fn times_fifth(a: [u16; 1024]) -> [u16; 1024]
+    ensures { λ r. ⌜ r ≡ multiple fifth a ⌝ }
+{
+    multiple(35636, a)
+}
+
+// ---- centred values and remainders
+
+// The centred value of a coefficient, from - 29,696 to 29,696.
+pub fn centred(c: u16) -> i32
+    ensures { λ r. ⌜ r ≡ centred c ⌝ }
+{
+    let y = c % 59393;
+    let z = y as i32;
+    if y <= 29696 { z } else { z - 59393 }
+}
+
+// The remainder by 5 between - 2 and 2. That of the machine has the sign of m and is between - 4 and 4.
+pub fn centred_remainder(m: i32) -> i32
+    ensures { λ r. ⌜ r ≡ centredRemainder m ⌝ }
+{
+    let t = m % 5;
+    if t > 2 {
+        t - 5
+    } else if t < -2 {
+        t + 5
+    } else {
+        t
+    }
+}
+
+// The residue modulo q of an integer.
+pub fn residue(m: i32) -> u16
+    ensures { λ r. ⌜ r ≡ residue m ⌝ }
+{
+    let t = m % 59393;
+    if t < 0 { (t + 59393) as u16 } else { t as u16 }
+}
+
+fn remainder_of(c: u16) -> u16
+    ensures { λ r. ⌜ r ≡ remainderOf c ⌝ }
+{
+    residue(centred_remainder(centred(c)))
+}
+
+// The remainder by 5 of every centred coefficient.
+pub fn remainders(m: [u16; 1024]) -> [u16; 1024]
+    ensures { λ r. ⌜ r ≡ remainders m ⌝ }
+{
+    let mut r = [0u16; 1024];
+    for k in 0..1024 {
+        r[k] = remainder_of(m[k]);
+    }
+    r
+}
+
+// ---- tests of every coefficient
+
+// Whether the centred value of x is between - k and k.
+fn is_near(x: u16, k: u16) -> bool
+    ensures { λ r. ⌜ r ≡ near? k x ⌝ }
+{
+    let y = x % 59393;
+    if y <= k {
+        return true;
+    }
+    59393 - y <= k
+}
+
+// Whether every centred coefficient is between - k and k.
+fn is_within(a: [u16; 1024], k: u16) -> bool
+    ensures { λ r. ⌜ r ≡ within? k a ⌝ }
+{
+    for i in 0..1024 {
+        if !is_near(a[i], k) {
+            return false;
+        }
+    }
+    true
+}
+
+// Document 01's short.
+pub fn is_ternary(a: [u16; 1024]) -> bool
+    ensures { λ r. ⌜ r ≡ within? 1 a ⌝ }
+{
+    is_within(a, 1)
+}
+
+pub fn is_within_2(a: [u16; 1024]) -> bool
+    ensures { λ r. ⌜ r ≡ within? 2 a ⌝ }
+{
+    is_within(a, 2)
+}
+
+// Whether q divides some entry.
+pub fn has_zero(t: [u16; 1024]) -> bool
+    ensures { λ r. ⌜ r ≡ hasZero t ⌝ }
+{
+    for j in 0..1024 {
+        if t[j] % 59393 == 0 {
+            return true;
+        }
+    }
+    false
+}
+
+// ---- many reciprocals for the price of one: a heap of products, the reciprocal of its top, and the way back down
+
+// The entries as the lower half of the heap.
+fn leaves(t: [u16; 1024]) -> [u16; 2048]
+    ensures { λ r. ⌜ drop n r ≡ t ⌝ }
+{
+    let mut h = [0u16; 2048];
+    for i in 0..1024 {
+        h[1024 + i] = t[i];
+    }
+    h
+}
+
+// Each entry above the leaves is the product of the two below it.
+fn products(l: [u16; 2048]) -> [u16; 2048]
+    ensures { λ r. ⌜ Heap (drop n l) r 1 ⌝ }
+{
+    let mut h = l;
+    for j in 0..1023 {
+        let k = 1023 - j;
+        let x = h[2 * k];
+        let y = h[2 * k + 1];
+        h[k] = modq::mul(x, y);
+    }
+    h
+}
+
+// Entry k is x × y, so the reciprocal of x is that of entry k times y. The top's reciprocal is 0 where it has none, and then so are all.
+fn inverses(h: [u16; 2048]) -> [u16; 2048]
+    requires { ⌜ Heap (drop n h) h 1 ⌝ }
+    ensures { λ r. ⌜ Inverses h r n ⌝ }
+{
+    let mut r = [0u16; 2048];
+    r[1] = modq::reciprocal(h[1]);
+    for k in 1..1024 {
+        let u = r[k];
+        let x = h[2 * k];
+        let y = h[2 * k + 1];
+        r[2 * k] = modq::mul(u, y);
+        r[2 * k + 1] = modq::mul(u, x);
+    }
+    r
+}
+
+fn lower_half(h: [u16; 2048]) -> [u16; 1024]
+    ensures { λ r. ⌜ r ≡ drop n h ⌝ }
+{
+    let mut r = [0u16; 1024];
+    for i in 0..1024 {
+        r[i] = h[1024 + i];
+    }
+    r
+}
+
+// The reciprocal of every entry; 1,024 zeros where q divides one of them, since the top of the heap is then 0.
+pub fn reciprocals(t: [u16; 1024]) -> [u16; 1024]
+    ensures { λ r. ⌜ r ≡ reciprocalsOf t ⌝ }
+{
+    let h = products(leaves(t));
+    lower_half(inverses(h))
+}
+
+// ---- products and inverses, by the transform. The tables of factors are lent, so that a caller makes them once.
+
+pub fn product_with(
+    a: [u16; 1024],
+    b: [u16; 1024],
+    forward: &[u16],
+    backward: &[u16],
+) -> [u16; 1024]
+    requires { ⌜ (now forward ≡ forwardFactors) × (now backward ≡ backwardFactors) ⌝ }
+    ensures { λ r. ⌜ r ≡ product a b ⌝ }
+{
+    let x = ntt::forward(a, forward);
+    let y = ntt::forward(b, forward);
+    ntt::backward(ntt::pointwise(x, y), backward)
+}
+
+pub fn product(a: [u16; 1024], b: [u16; 1024]) -> [u16; 1024]
+    ensures { λ r. ⌜ r ≡ product a b ⌝ }
+{
+    let w = ntt::forward_factors();
+    let v = ntt::backward_factors();
+    product_with(a, b, &w, &v)
+}
+
+// Whether an element has an inverse, and the inverse; 1,024 zeros where it has none.
+pub struct Inversion {
+    pub exists: bool,
+    pub value: [u16; 1024],
+}
+
+pub fn inverse_with(b: [u16; 1024], forward: &[u16], backward: &[u16]) -> Inversion
+    requires { ⌜ (now forward ≡ forwardFactors) × (now backward ≡ backwardFactors) ⌝ }
+    ensures { λ r. ⌜ (r .exists ≡ decide (invertible? b)) × (r .value ≡ inverseOf b) ⌝ }
+{
+    let t = ntt::forward(b, forward);
+    if has_zero(t) {
+        return Inversion {
+            exists: false,
+            value: [0u16; 1024],
+        };
+    }
+    let u = ntt::backward(reciprocals(t), backward);
+    Inversion {
+        exists: true,
+        value: u,
+    }
+}
+
+pub fn inverse(b: [u16; 1024]) -> Inversion
+    ensures { λ r. ⌜ (r .exists ≡ decide (invertible? b)) × (r .value ≡ inverseOf b) ⌝ }
+{
+    let w = ntt::forward_factors();
+    let v = ntt::backward_factors();
+    inverse_with(b, &w, &v)
+}
