@@ -151,8 +151,8 @@ fn absorb(rate: usize, input: &[u8]) -> [[u64; 5]; 5]
     let mut s = [[0u64; 5]; 5];
     for k in 0..n {
         let at = rate * k;
-        let next = absorb_block(s, &input[at..at + rate]);
-        s = next;
+        let t = absorb_block(s, &input[at..at + rate]);
+        s = t;
     }
     let at = rate * n;
     let b = last_block(rate, &input[at..]);
@@ -213,9 +213,10 @@ fn squeeze(rate: usize, s: [[u64; 5]; 5], out: &mut [u8])
     let mut s = s;
     for k in 0..n {
         let at = rate * k;
-        put_bytes(s, &mut out[at..at + rate]);
-        let t = keccak::keccak_f(s);
-        s = t;
+        let current = s;
+        put_bytes(current, &mut out[at..at + rate]);
+        let next = keccak::keccak_f(current);
+        s = next;
     }
     let at = rate * n;
     put_bytes(s, &mut out[at..]);
