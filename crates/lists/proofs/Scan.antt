@@ -1,13 +1,16 @@
 -- The invariant of every loop that looks for the first entry of a list that fails a test.
 use mathlib.Core.Path.{_≡_, refl, sym, ap, _∙_}
-use mathlib.Core.Bool.{Bool, true, false, cond}
+use mathlib.Core.Bool.{Bool, true, false, cond, false≢true}
 use mathlib.Core.List.{List, [], _∷_}
 use Prim.Native.Nat.{ℕ, zero, suc, _+_, _<_, _≤_}
 use native.Mathlib.Nat.{zero-add}
 use native.Mathlib.Numerals.{add-one}
 use native.Mathlib.Omega.{arith}
+use native.Mathlib.Decide.{decLe}
+use lib.Dec.{leb, eqb}
 use lib.ListN.{length, getD, drop}
 use lib.Seq.{drop-cons, drop-length}
+use borrow.Author.Tests.{le-leb, lt-leb, eq-eqb, ne-eqb}
 use Rattle.lists.specs.First.{firstFailing}
 
 -- the first i entries of xs pass
@@ -81,3 +84,50 @@ first-fails good (x ∷ xs) h = by (good x) refl h (first-fails good xs)
         → good (getD (x ∷ xs) (cond b (suc (firstFailing good xs)) 0) 0) ≡ false
     by true p h rest = rest (omega arith)
     by false p h rest = p
+
+-- ---- a scan of every entry that does not stop: whether the first i have passed
+
+pub record Scanned (good : ℕ → Bool) (xs : List ℕ) (all : Bool) (i : ℕ) : Type 0 where
+  pub within : i ≤ length xs
+  pub so-far : all ≡ leb i (firstFailing good xs)
+
+pub scanned-none : (good : ℕ → Bool) (xs : List ℕ) → Scanned good xs true 0
+scanned-none good xs = record { within = omega arith; so-far = sym (le-leb 0 (firstFailing good xs) (omega arith)) }
+
+-- the entry at i passes
+pub scanned-pass : {good : ℕ → Bool} {xs : List ℕ} {all : Bool} {i : ℕ} → Scanned good xs all i → i < length xs → good (getD xs i 0) ≡ true
+    → Scanned good xs all (i + 1)
+scanned-pass {good} {xs} {all} {i} s h g = record { within = omega arith; so-far = s .so-far ∙ by (decLe i f) (decLe (i + 1) f) }
+  where
+    f : ℕ
+    f = firstFailing good xs
+
+    by : Dec (i ≤ f) → Dec (i + 1 ≤ f) → leb i f ≡ leb (i + 1) f
+    by (yes l) (yes m) = le-leb i f l ∙ sym (le-leb (i + 1) f m)
+    by (yes l) (no m) =
+        let e : f ≡ i = omega arith in
+        absurd (false≢true (sym (rw e at (first-fails good xs (omega arith))) ∙ g))
+    by (no l) d = lt-leb i f (omega arith) ∙ sym (lt-leb (i + 1) f (omega arith))
+
+-- the entry at i fails
+pub scanned-fail : {good : ℕ → Bool} {xs : List ℕ} {all : Bool} {i : ℕ} → Scanned good xs all i → i < length xs → good (getD xs i 0) ≡ false
+    → Scanned good xs false (i + 1)
+scanned-fail {good} {xs} {all} {i} s h g = record { within = omega arith; so-far = by (decLe (i + 1) f) }
+  where
+    f : ℕ
+    f = firstFailing good xs
+
+    by : Dec (i + 1 ≤ f) → false ≡ leb (i + 1) f
+    by (yes l) = sym g ∙ before-first good xs i (omega arith) ∙ sym (le-leb (i + 1) f l)
+    by (no l) = sym (lt-leb (i + 1) f (omega arith))
+
+pub scanned-all : {good : ℕ → Bool} {xs : List ℕ} {all : Bool} {i : ℕ} → Scanned good xs all i → length xs ≤ i
+    → all ≡ eqb (firstFailing good xs) (length xs)
+scanned-all {good} {xs} {all} {i} s h = s .so-far ∙ by (decLe i f)
+  where
+    f : ℕ
+    f = firstFailing good xs
+
+    by : Dec (i ≤ f) → leb i f ≡ eqb f (length xs)
+    by (yes l) = le-leb i f l ∙ sym (eq-eqb f (length xs) (omega (arith, s .within, first-within good xs)))
+    by (no l) = lt-leb i f (omega arith) ∙ sym (ne-eqb f (length xs) (λ e. l (omega (arith, s .within, e))))

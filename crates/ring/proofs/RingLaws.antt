@@ -7,6 +7,7 @@ use native.Mathlib.Omega.{arith}
 use lib.ListN.{length, getD, set, length-replicate, getD-replicate}
 use Rattle.lists.specs.Table.{zeros}
 use Rattle.lists.proofs.Tables.{table-is}
+use Rattle.lists.proofs.Zeros.{size-zeros}
 use Rattle.algebra.specs.Ring.{CommRing}
 use Rattle.algebra.specs.Polynomials.{negacyclic}
 use Rattle.algebra.specs.Numbers as N
@@ -138,6 +139,14 @@ inverse-times b i = by (invertible? b)
     by : (d : Dec (Invertible b)) → Element (witness b d) × (product b (witness b d) ≡ one)
     by (yes (j, g, f)) = (g, f)
     by (no none) = absurd (none i)
+
+pub length-inverse : (b : List ℕ) → length (inverseOf b) ≡ n
+unfolding inverseOf
+length-inverse b = by (invertible? b)
+  where
+    by : (d : Dec (Invertible b)) → length (witness b d) ≡ n
+    by (yes (j, g, f)) = g .size
+    by (no none) = sym (size-zeros n)
 
 -- ---- one, as the code builds it
 

@@ -1,6 +1,6 @@
 -- Tests of every entry: a scan that stopped at entry i, or at none, and what its answer says.
 use mathlib.Core.Path.{_≡_, sym, ap, _∙_}
-use mathlib.Core.Bool.{true, false, not}
+use mathlib.Core.Bool.{Bool, true, false, not}
 use mathlib.Core.Logic.{_↔_, _≢_}
 use mathlib.Core.List.{List}
 use Prim.Native.Nat.{ℕ, _-_, _%_, _<_, _≤_, min}
@@ -11,7 +11,7 @@ use lib.Dec.{leb}
 use lib.ListN.{length, getD}
 use borrow.Author.Tests.{lt-ltb, le-ltb, ltb-true, ltb-false, le-leb, lt-leb, leb-true, eq-eqb, ne-eqb, eqb-true, eqb-false, not-true, not-false}
 use Rattle.lists.specs.First.{firstFailing}
-use Rattle.lists.proofs.Scan.{first-none, first-passes, first-fails}
+use Rattle.lists.proofs.Scan.{Scanned, scanned-all, first-none, first-passes, first-fails}
 use Rattle.ring.specs.Ring.{q, n}
 use Rattle.ring.specs.Centred.{near?, Within, within?}
 use Rattle.ring.specs.Reciprocals.{nonzero?, hasZero}
@@ -33,13 +33,9 @@ near-high k c h = rw (centred-size c) (by (decLe (q - c % q) k))
 
 -- ---- every word is near
 
-pub within-stop : (k : ℕ) (a : List ℕ) (i : ℕ) → i < length a → i ≡ firstFailing (near? k) a → false ≡ within? k a
+pub within-scanned : (k : ℕ) (a : List ℕ) {all : Bool} {i : ℕ} → Scanned (near? k) a all i → length a ≤ i → all ≡ within? k a
 unfolding within?
-within-stop k a i h e = sym (ne-eqb (firstFailing (near? k) a) (length a) (omega arith))
-
-pub within-end : (k : ℕ) (a : List ℕ) (i : ℕ) → i ≡ length a → i ≡ firstFailing (near? k) a → true ≡ within? k a
-unfolding within?
-within-end k a i h e = sym (eq-eqb _ _ (sym e ∙ h))
+within-scanned k a s h = scanned-all s h
 
 -- the test is what it says
 pub within-iff : (k : ℕ) (a : List ℕ) → length a ≡ n → (within? k a ≡ true) ↔ Within k a

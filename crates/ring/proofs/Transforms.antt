@@ -1,29 +1,41 @@
 -- Products and inverses by the transform of crate ntt.
-use mathlib.Core.Path.{_≡_, refl, sym, ap, _∙_}
-use mathlib.Core.Bool.{Bool, true, false, cond, decide}
+use mathlib.Core.Path.{_≡_, refl, sym, ap, ap₂, _∙_}
+use mathlib.Core.Bool.{Bool, true, false, cond, decide, not}
 use mathlib.Core.List.{List}
 use mathlib.Core.Logic.{_↔_, _≢_}
-use Prim.Native.Nat.{ℕ, _%_, _<_}
-use native.Mathlib.Nat.{mod-mod}
+use Prim.Native.Nat.{ℕ, zero, suc, _%_, _<_}
+use native.Mathlib.Nat.{mod-mod, mul-zero}
 use native.Mathlib.Omega.{arith}
 use lib.ListN.{length, getD}
 use Rattle.lists.specs.Table.{table, zeros}
-use Rattle.lists.proofs.Tables.{length-table, getD-table}
+use Rattle.lists.proofs.Tables.{length-table, getD-table, table-same}
+use Rattle.lists.proofs.Zeros.{zeros-table}
 use Rattle.algebra.specs.Numbers as N
 use Rattle.algebra.specs.Numbers.{mulMod}
+use Rattle.algebra.proofs.Residues.{mod-mul-left, mod-mul-right}
+use Rattle.algebra.proofs.Numbers.{element-table}
 use Rattle.algebra.proofs.Elements as E
 use Rattle.algebra.proofs.Negacyclic as G
 use Rattle.algebra.proofs.PlainProduct.{product-by-residues}
 use Rattle.modq.specs.Modulus.{reciprocalOf}
 use Rattle.modq.proofs.Prime.{q-positive, negacyclic-root}
-use Rattle.modq.proofs.Reciprocals.{reciprocal-times}
-use Rattle.ntt.specs.Spectrum.{spectrumOf, coefficientsOf}
-use Rattle.ntt.proofs.Spectrum.{spectrum-of-reduced, length-spectrum, coefficients-element}
+use Rattle.modq.proofs.Reciprocals.{reciprocal-times, reciprocal-below}
+use Rattle.ntt.specs.Spectrum.{spectrumOf, coefficientsOf, pointwise}
+use Rattle.ntt.proofs.Spectrum.{spectrum-of-reduced, length-spectrum, coefficients-element, spectrum-of-coefficients, coefficients-of-spectrum, product-by-transform}
 use Rattle.ring.specs.Ring.{q, n, Element, one, product, Invertible}
 use Rattle.ring.specs.Invertible.{invertible?, inverseOf}
 use Rattle.ring.specs.Reciprocals.{hasZero, reciprocalsOf}
 use Rattle.ring.proofs.RingLaws.{inverse-is, inverse-none}
 use Rattle.ring.proofs.Scans.{no-zero, some-zero}
+
+value-of-zeros : (x m : ℕ) → N.valueMod q x (zeros m) ≡ 0
+unfolding N.valueMod
+value-of-zeros x zero = refl
+value-of-zeros x (suc m) = rw (value-of-zeros x m, mul-zero x) refl
+
+spectrum-of-zeros : spectrumOf (zeros n) ≡ zeros n
+unfolding spectrumOf
+spectrum-of-zeros = sym (zeros-table n _ (λ k h. value-of-zeros _ n))
 
 module _ (b : List ℕ) (size : length b ≡ n) where
   reduced : List ℕ
@@ -75,3 +87,61 @@ module _ (b : List ℕ) (size : length b ≡ n) where
       (λ k h. ap (λ (l : List ℕ). mulMod q (getD l k 0) (getD w k 0)) (sym (spectrum-of-reduced b size)) ∙ entry k h) in
       let element : Element (coefficientsOf w) = coefficients-element w long in
       (sym (decided (invertible? b) .0 (coefficientsOf w, element, times)), sym (inverse-is b (coefficientsOf w) size element times))
+
+  -- so a spectrum tells whether there is an inverse ..
+  pub zero-decides : not (hasZero (spectrumOf b)) ≡ decide (invertible? b)
+  zero-decides = by (hasZero (spectrumOf b)) refl
+    where
+      by : (z : Bool) → hasZero (spectrumOf b) ≡ z → not (hasZero (spectrumOf b)) ≡ decide (invertible? b)
+      by true e = ap not e ∙ no-inverse e .0
+      by false e = ap not e ∙ some-inverse e .0
+
+  -- .. and its reciprocals are the spectrum of the inverse: zeros, where there is none
+  pub inverse-spectrum : reciprocalsOf (spectrumOf b) ≡ spectrumOf (inverseOf b)
+  unfolding reciprocalsOf
+  inverse-spectrum = by (hasZero (spectrumOf b)) refl
+    where
+      t : List ℕ
+      t = spectrumOf b
+
+      w : List ℕ
+      w = reciprocalsOf t
+
+      entry : (z : Bool) (k : ℕ) → cond z 0 (reciprocalOf (getD t k 0)) < q
+      entry true k = q-positive
+      entry false k = reciprocal-below (getD t k 0)
+
+      element : Element w
+      element = element-table q n _ (entry (hasZero t))
+
+      by : (z : Bool) → hasZero t ≡ z → w ≡ spectrumOf (inverseOf b)
+      by true e =
+          sym (zeros-table n _ (λ k h. ap (λ (z : Bool). cond z 0 (reciprocalOf (getD t k 0))) e))
+          ∙ sym (spectrum-of-zeros) ∙ ap spectrumOf (no-inverse e .1)
+      by false e =
+          sym (E.reduced-same q q-positive n w element) ∙ sym (spectrum-of-coefficients w (element .size))
+          ∙ ap spectrumOf (some-inverse e .1)
+
+-- the pointwise product of two spectra is the spectrum of the product
+pub product-by-spectra : (x y : List ℕ) → length x ≡ n → length y ≡ n → coefficientsOf (pointwise x y) ≡ product (coefficientsOf x) (coefficientsOf y)
+unfolding pointwise
+product-by-spectra x y hx hy =
+    sym (ap coefficientsOf (ap₂ pointwise (spectrum-of-coefficients x hx) (spectrum-of-coefficients y hy) ∙ table-same n _ _ entry))
+    ∙ product-by-transform (coefficientsOf x) (coefficientsOf y) (coefficients-element x hx .size) (coefficients-element y hy .size)
+  where
+    entry : (k : ℕ) → k < n → mulMod q (getD (N.reduced q n x) k 0) (getD (N.reduced q n y) k 0) ≡ mulMod q (getD x k 0) (getD y k 0)
+    entry k h =
+        ap₂ (mulMod q) (E.reduced-at q q-positive n x k h) (E.reduced-at q q-positive n y k h)
+        ∙ mod-mul-left (getD x k 0) (getD y k 0 % q) q ∙ mod-mul-right (getD x k 0) (getD y k 0) q
+
+-- an element that went through its spectrum and back is the same factor
+module _ (a b : List ℕ) where
+  through : (c : List ℕ) → length c ≡ n → (k : ℕ) → k < n → getD (coefficientsOf (spectrumOf c)) k 0 % q ≡ getD c k 0 % q
+  through c size k h =
+      ap (λ (l : List ℕ). getD l k 0 % q) (coefficients-of-spectrum c size) ∙ ap (λ (x : ℕ). x % q) (E.reduced-at q q-positive n c k h) ∙ mod-mod (getD c k 0) q
+
+  pub left-through : length a ≡ n → product (coefficientsOf (spectrumOf a)) b ≡ product a b
+  left-through size = product-by-residues q q-positive 1023 _ a b b (through a size) (λ k h. refl)
+
+  pub right-through : length b ≡ n → product a (coefficientsOf (spectrumOf b)) ≡ product a b
+  right-through size = product-by-residues q q-positive 1023 a a _ b (λ k h. refl) (through b size)

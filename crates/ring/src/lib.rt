@@ -3,8 +3,9 @@
 ghost use mathlib.Core.Path.{_≡_};
 ghost use lib.ListN.{drop};
 ghost use mathlib.Core.Bool.{decide};
+ghost use Rattle.ntt.specs.Spectrum.{coefficientsOf};
 ghost use Rattle.ntt.specs.Factors.{forwardFactors, backwardFactors};
-ghost use Rattle.ring.specs.Ring.{n, fifth, one, sum, difference, multiple, product};
+ghost use Rattle.ring.specs.Ring.{n, one, sum, difference, multiple, product};
 ghost use Rattle.ring.specs.Invertible.{invertible?, inverseOf};
 ghost use Rattle.ring.specs.Centred.{centred, residue, centredRemainder, remainderOf, remainders, near?, within?};
 ghost use Rattle.ring.specs.Reciprocals.{hasZero, reciprocalsOf};
@@ -49,19 +50,6 @@ pub fn multiple(c: u16, a: [u16; 1024]) -> [u16; 1024]
         r[k] = modq::mul(c, a[k]);
     }
     r
-}
-
-pub fn times5(a: [u16; 1024]) -> [u16; 1024]
-    ensures { λ r. ⌜ r ≡ multiple 5 a ⌝ }
-{
-    multiple(5, a)
-}
-
-// Document 01's division by 5: 35,636 is the reciprocal of 5.
-pub fn times_fifth(a: [u16; 1024]) -> [u16; 1024]
-    ensures { λ r. ⌜ r ≡ multiple fifth a ⌝ }
-{
-    multiple(35636, a)
 }
 
 // ---- centred values and remainders
@@ -127,29 +115,18 @@ fn is_near(x: u16, k: u16) -> bool
     59393 - y <= k
 }
 
-// Whether every centred coefficient is between - k and k.
-fn is_within(a: [u16; 1024], k: u16) -> bool
+// Whether every centred coefficient is between - k and k; with k = 1 document 01's short. It looks at all of them, so that its time
+// does not tell which one failed.
+pub fn is_within(a: [u16; 1024], k: u16) -> bool
     ensures { λ r. ⌜ r ≡ within? k a ⌝ }
 {
+    let mut all = true;
     for i in 0..1024 {
         if !is_near(a[i], k) {
-            return false;
+            all = false;
         }
     }
-    true
-}
-
-// Document 01's short.
-pub fn is_ternary(a: [u16; 1024]) -> bool
-    ensures { λ r. ⌜ r ≡ within? 1 a ⌝ }
-{
-    is_within(a, 1)
-}
-
-pub fn is_within_2(a: [u16; 1024]) -> bool
-    ensures { λ r. ⌜ r ≡ within? 2 a ⌝ }
-{
-    is_within(a, 2)
+    all
 }
 
 // Whether q divides some entry.
@@ -227,6 +204,14 @@ pub fn reciprocals(t: [u16; 1024]) -> [u16; 1024]
 }
 
 // ---- products and inverses, by the transform. The tables of factors are lent, so that a caller makes them once.
+
+// The product of the two elements with the spectra x and y.
+pub fn product_of_spectra(x: [u16; 1024], y: [u16; 1024], backward: &[u16]) -> [u16; 1024]
+    requires { ⌜ now backward ≡ backwardFactors ⌝ }
+    ensures { λ r. ⌜ r ≡ product (coefficientsOf x) (coefficientsOf y) ⌝ }
+{
+    ntt::backward(ntt::pointwise(x, y), backward)
+}
 
 pub fn product_with(
     a: [u16; 1024],

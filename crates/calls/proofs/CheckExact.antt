@@ -1,0 +1,33 @@
+-- Demand 3 of the key check.
+use mathlib.Core.Path.{_≡_}
+use mathlib.Core.Logic.{_↔_, Iff·rfl, Iff·trans, Iff·and}
+use mathlib.Core.List.{List}
+use Prim.Native.Nat.{ℕ}
+use Rattle.ring.specs.Ring.{Invertible}
+use Rattle.records.specs.declared.Answer.the-variants.{Done}
+use Rattle.records.specs.Answers.{number}
+use Rattle.records.specs.Records.{secondOf}
+use Rattle.calls.specs.Calls.{secretAnswer, checkAnswer}
+use Rattle.calls.specs.WellFormed.{WellFormedKey}
+use Rattle.calls.specs.Promises.{Accepted, Matches, CheckExact}
+use Rattle.calls.proofs.AnswerLaws.{number-done}
+use Rattle.calls.proofs.Keys.{secret-done}
+use Rattle.calls.proofs.WhenDone.{check-done}
+
+pub accepted-iff : (k : List ℕ) → Accepted k ↔ (WellFormedKey k × Invertible (secondOf k) × Matches k)
+accepted-iff k =
+    Iff·trans
+    (Iff·trans (number-done (checkAnswer k)) (Iff·trans (check-done k) (Iff·and Iff·rfl (secret-done k)))) (
+      λ (size, (front, codes, unit, matches)). (record { size = size; front = front; codes = codes }, unit, matches),
+      λ (w, unit, matches). (w .size, (w .front, w .codes, unit, matches)),
+    )
+
+pub check-exact : (k : List ℕ) → CheckExact k (number (checkAnswer k))
+check-exact k w = (
+  λ e. let (w, unit, matches) = accepted-iff k .0 e in (unit, matches),
+  λ (unit, matches). accepted-iff k .1 (w, unit, matches),
+)
+
+-- the checks of an accepted key pass in both openings
+pub accepted-done : (k : List ℕ) → Accepted k → secretAnswer k ≡ Done
+accepted-done k accepted = check-done k .0 (number-done (checkAnswer k) .0 accepted) .1

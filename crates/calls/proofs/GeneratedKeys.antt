@@ -1,0 +1,125 @@
+-- Key generation: the key check and the public check accept what it writes.
+use mathlib.Core.Path.{_≡_, refl, sym, ap, _∙_}
+use mathlib.Core.List.{List, [], _++_, append-nil}
+use Prim.Native.Nat.{ℕ}
+use lib.ListN.{length}
+use Rattle.exactness.proofs.Elements.{keyElement-element}
+use Rattle.ring.specs.Ring.{Element, Invertible}
+use Rattle.scheme.specs.Scheme.{setting}
+use Rattle.scheme.proofs.Givens.{givens}
+use Rattle.encoding.specs.Codes.{ternaryOf, ternaryBytes}
+use Rattle.encoding.proofs.Codes.{length-ternaryBytes, ternaryBytes-valid}
+use Rattle.encoding.proofs.RoundTrips.{ternaryOf-bytes}
+use Rattle.sampling.specs.Noise.{ternaryNoise}
+use Rattle.sampling.specs.Stream.{uniformElement}
+use Rattle.sampling.proofs.NoiseLaws.{ternaryNoise-ternary}
+use Rattle.sampling.proofs.Streams.{uniform-element}
+use Rattle.records.specs.declared.Answer.the-variants.{Done}
+use Rattle.records.specs.Answers.{number}
+use Rattle.records.specs.Records.{firstOf, secondOf, codesPart, secretOf, recordBytes}
+use Rattle.calls.specs.Calls.{publicAnswer, keygenB, keygenAnswer, publicKeyBytes, secretKeyBytes, keygenPublic, keygenSecret}
+use Rattle.calls.specs.WellFormed.{WellFormedFront, WellFormedKey}
+use Rattle.calls.specs.Promises.{Accepted, Matches, PublicOf}
+use Rattle.calls.proofs.AnswerLaws.{number-done, on-done}
+use Rattle.calls.proofs.WrittenRecords.{length-both, part-end, length-record, record-first, record-second, record-well-formed}
+use Rattle.calls.proofs.WhenDone.{keygen-done}
+use Rattle.calls.proofs.CheckExact.{accepted-iff}
+use Rattle.calls.proofs.Encapsulations.{public-accepted}
+
+module _ (stream s e : List ℕ) where
+  abbrev a : List ℕ
+  a = uniformElement stream
+
+  abbrev b : List ℕ
+  b = keygenB stream s e
+
+  a-element : Element a
+  a-element = uniform-element stream
+
+  b-element : Element b
+  unfolding keygenB
+  b-element = keyElement-element setting givens a (ternaryNoise s) (ternaryNoise e)
+
+  abbrev codes : List ℕ
+  codes = ternaryBytes (ternaryNoise s)
+
+  -- ---- the parts of the secret key
+
+  abbrev k : List ℕ
+  k = secretKeyBytes stream s e
+
+  secret-first : firstOf k ≡ a
+  unfolding secretKeyBytes
+  secret-first = record-first 83 68 75 a b codes a-element
+
+  secret-second : secondOf k ≡ b
+  unfolding secretKeyBytes
+  secret-second = record-second 83 68 75 a b codes b-element
+
+  secret-codes : codesPart k ≡ codes
+  unfolding secretKeyBytes
+  secret-codes = part-end (recordBytes 83 68 75 a b) codes (length-record 83 68 75 a b) (length-ternaryBytes (ternaryNoise s))
+
+  secret-front : WellFormedFront 83 68 75 k
+  unfolding secretKeyBytes
+  secret-front = record-well-formed 83 68 75 a b codes a-element b-element
+
+  secret-size : length k ≡ 4357
+  unfolding secretKeyBytes
+  secret-size = length-both (recordBytes 83 68 75 a b) codes (length-record 83 68 75 a b) (length-ternaryBytes (ternaryNoise s))
+
+  secret-well-formed : WellFormedKey k
+  secret-well-formed = record { size = secret-size; front = secret-front; codes = rw secret-codes (ternaryBytes-valid (ternaryNoise s)) }
+
+  -- b = 5 (a × s + e), by the e of the noise
+  secret-matches : Matches k
+  unfolding keygenB
+  secret-matches =
+      let is-s : secretOf k ≡ ternaryNoise s = ap ternaryOf secret-codes ∙ ternaryOf-bytes (ternaryNoise s) (ternaryNoise-ternary s) in
+      (ternaryNoise e, ternaryNoise-ternary e, rw (secret-first, secret-second, is-s) refl)
+
+  secret-accepted : Invertible b → Accepted k
+  secret-accepted unit = accepted-iff k .1 (secret-well-formed, rw secret-second unit, secret-matches)
+
+  -- ---- the parts of the public key
+
+  abbrev p : List ℕ
+  p = publicKeyBytes stream s e
+
+  behind-front : p ≡ recordBytes 80 68 75 a b ++ []
+  unfolding publicKeyBytes
+  behind-front = sym (append-nil (recordBytes 80 68 75 a b))
+
+  public-size : length p ≡ 4101
+  unfolding publicKeyBytes
+  public-size = length-record 80 68 75 a b
+
+  public-of : PublicOf p k
+  public-of = record {
+    size = public-size;
+    mark = rw behind-front (record-well-formed 80 68 75 a b [] a-element b-element .mark);
+    version = rw behind-front (record-well-formed 80 68 75 a b [] a-element b-element .version);
+    same-a = ap firstOf behind-front ∙ record-first 80 68 75 a b [] a-element ∙ sym secret-first;
+    same-b = ap secondOf behind-front ∙ record-second 80 68 75 a b [] b-element ∙ sym secret-second;
+  }
+
+  -- ---- under 0
+
+  module _ (public secret : List ℕ) (zero : number (keygenAnswer stream s e (length public) (length secret)) ≡ 0) where
+    done : keygenAnswer stream s e (length public) (length secret) ≡ Done
+    done = number-done _ .0 zero
+
+    writes-public : keygenPublic stream s e public secret ≡ p
+    unfolding keygenPublic
+    writes-public = on-done p public done
+
+    writes-secret : keygenSecret stream s e public secret ≡ k
+    unfolding keygenSecret
+    writes-secret = on-done k secret done
+
+    pub generated : Accepted (keygenSecret stream s e public secret)
+        × PublicOf (keygenPublic stream s e public secret) (keygenSecret stream s e public secret)
+        × (number (publicAnswer (keygenPublic stream s e public secret)) ≡ 0)
+    generated =
+        let accepted : Accepted k = secret-accepted (keygen-done stream s e (length public) (length secret) .0 done .1 .1) in
+        rw (writes-public, writes-secret) (accepted, public-of, ap number (public-accepted public-of accepted))

@@ -1,0 +1,23 @@
+-- Laws of answers and records.
+pub mod AnswerLaws
+pub mod RecordLaws
+pub mod WrittenRecords
+pub mod WrittenTriples
+-- When keys and calls say Done.
+pub mod Lengths
+pub mod Keys
+pub mod WhenDone
+-- Demand 3 over bytes.
+pub mod CheckExact
+pub mod Outcomes
+pub mod DecapsulateExact
+pub mod OpenExact
+-- When 6 is said, and what refusals leave.
+pub mod NotInvertible
+pub mod Untouched
+-- Round trips.
+pub mod Encapsulations
+pub mod BareEncapsulations
+pub mod SealedEntries
+pub mod GeneratedKeys
+pub mod RoundTrips

@@ -1,0 +1,101 @@
+-- When 6 is said.
+use mathlib.Core.Path.{_≡_}
+use mathlib.Core.Bool.{Bool, true}
+use mathlib.Core.Logic.{_↔_, Iff·trans, Iff·and}
+use mathlib.Core.List.{List}
+use Prim.Native.Nat.{ℕ}
+use native.Mathlib.Omega.{arith}
+use lib.ListN.{length}
+use Rattle.ring.specs.Ring.{Invertible}
+use Rattle.scheme.specs.Scheme.{Outcome, found, failed}
+use Rattle.encoding.specs.Codes.{firstInvalidCode}
+use Rattle.derivation.specs.Derivation.{genuine?}
+use Rattle.records.specs.declared.Refusal.the-variants.{WrongLength, TagMismatch}
+use Rattle.records.specs.declared.Answer.{Answer}
+use Rattle.records.specs.Answers.{number, unless, andThen}
+use Rattle.records.specs.Records.{firstOf, secondOf, codesPart, bodyPart, tagPart, c1Of, c2Of}
+use Rattle.calls.specs.Calls.{publicAnswer, secretAnswer, checkAnswer, keygenAnswer, tripleOf, noiseTriple, outcome, outcomeAnswer, openedAnswer}
+use Rattle.calls.specs.Calls.{encapsulateAnswer, decapsulateAnswer, sealAnswer, openAnswer}
+use Rattle.calls.specs.WellFormed.{WellFormedFront, WellFormedKey}
+use Rattle.calls.specs.Promises.{NotInvertibleExact}
+use Rattle.calls.proofs.AnswerLaws.{Never, unless-never, done-never, then-never, unless-says, then-refuses}
+use Rattle.calls.proofs.RecordLaws.{record-never, encapsulation-never, triple-never}
+use Rattle.calls.proofs.Lengths.{one-fits, keygen-fits, encapsulate-fits, decapsulate-fits, seal-fits, open-fits}
+use Rattle.calls.proofs.Keys.{generated-refused, public-refused, secret-refused}
+
+-- ---- what stands before and behind the check of a key
+
+-- the lengths: 1 is no 6
+six-after-lengths : {fit : Bool} {F G : Type 0} (a : Answer) → (fit ≡ true) ↔ F → (number a ≡ 6) ↔ G → (number (unless fit WrongLength a) ≡ 6) ↔ (F × G)
+six-after-lengths {fit} a f g = Iff·trans (unless-says 6 fit WrongLength a (λ e. omega arith)) (Iff·and f g)
+
+-- 9 and 10 are no 6
+outcome-never : (o : Outcome) → Never 6 (outcomeAnswer o)
+outcome-never (found t) = done-never (omega arith)
+outcome-never failed = record { never = λ e. omega arith }
+
+opened-never : (o : Outcome) (body tag : List ℕ) → Never 6 (openedAnswer o body tag)
+opened-never (found t) body tag =
+    unless-never (genuine? (t .r) (t .e1) (t .e2) body tag) TagMismatch (λ (e : 10 ≡ 6). omega arith) (done-never (omega arith))
+opened-never failed body tag = record { never = λ e. omega arith }
+
+-- so the key alone says it
+by-key : {G : Type 0} (key : Answer) {rest : Answer} → Never 6 rest → (number key ≡ 6) ↔ G → (number (andThen key rest) ≡ 6) ↔ G
+by-key key h g = Iff·trans (then-refuses key (omega arith) h) g
+
+-- the two openings: a secret key and three further lengths
+opening : (k : List ℕ) {i i′ j j′ l l′ : ℕ}
+    → (((length k ≡ 4357) × (i ≡ i′) × (j ≡ j′) × (l ≡ l′))
+    × (WellFormedFront 83 68 75 k × (firstInvalidCode (codesPart k) ≡ 1024) × ¬ (Invertible (secondOf k))))
+    ↔ (WellFormedKey k × (i ≡ i′) × (j ≡ j′) × (l ≡ l′) × ¬ (Invertible (secondOf k)))
+opening k = (
+  λ ((size, h1, h2, h3), (front, codes, none)). (record { size = size; front = front; codes = codes }, h1, h2, h3, none),
+  λ (w, h1, h2, h3, none). ((w .size, h1, h2, h3), (w .front, w .codes, none)),
+)
+
+pub not-invertible-exact : NotInvertibleExact
+unfolding keygenAnswer checkAnswer encapsulateAnswer decapsulateAnswer sealAnswer openAnswer
+not-invertible-exact = record {
+  public-key = public-refused;
+  secret-key = secret-refused;
+  keygen = λ stream s e public secret.
+      Iff·trans
+      (six-after-lengths _ (keygen-fits stream s e public secret)
+      (generated-refused stream s e)) (
+        λ ((h1, h2, h3, h4, h5), (full, none)). (h1, h2, h3, h4, h5, full, none),
+        λ (h1, h2, h3, h4, h5, full, none). ((h1, h2, h3, h4, h5), (full, none)),
+      );
+  check = λ k.
+      Iff·trans (six-after-lengths (secretAnswer k) (one-fits (length k) 4357) (secret-refused k)) (
+        λ (size, (front, codes, none)). (record { size = size; front = front; codes = codes }, none),
+        λ (w, none). (w .size, (w .front, w .codes, none)),
+      );
+  encapsulate = λ k t room.
+      Iff·trans
+      (six-after-lengths _ (encapsulate-fits k t room)
+      (by-key (publicAnswer k) (triple-never (omega arith) t) (public-refused k))) (
+        λ ((size, h1, h2), (front, none)). (record { size = size; front = front }, h1, h2, none),
+        λ (w, h1, h2, none). ((w .size, h1, h2), (w .front, none)),
+      );
+  decapsulate = λ k c d room.
+      Iff·trans
+      (six-after-lengths _ (decapsulate-fits k c d room)
+      (by-key (secretAnswer k)
+      (then-never (encapsulation-never (omega arith) c)
+      (then-never (triple-never (omega arith) d) (outcome-never (outcome k (tripleOf d) (c1Of c) (c2Of c)))))
+      (secret-refused k)))
+      (opening k);
+  seal = λ k noise entry room.
+      Iff·trans (six-after-lengths (publicAnswer k) (seal-fits k noise entry room) (public-refused k)) (
+        λ ((size, h1, h2, h3), (front, none)). (record { size = size; front = front }, h1, h2, h3, none),
+        λ (w, h1, h2, h3, none). ((w .size, h1, h2, h3), (w .front, none)),
+      );
+  open-entry = λ k e noise room.
+      Iff·trans
+      (six-after-lengths _ (open-fits k e noise room)
+      (by-key (secretAnswer k)
+      (then-never (record-never (omega arith) 80 76 71 e)
+      (opened-never (outcome k (noiseTriple noise) (firstOf e) (secondOf e)) (bodyPart e) (tagPart e)))
+      (secret-refused k)))
+      (opening k);
+}

@@ -1,0 +1,95 @@
+-- What decapsulation by an accepted key finds, and what both openings say of it.
+use mathlib.Core.Path.{_≡_, refl, ap}
+use mathlib.Core.Bool.{Bool, true, false, not-eq-not}
+use mathlib.Core.Logic.{_↔_, _⊎_, inl, inr}
+use mathlib.Core.List.{List}
+use Prim.Native.Nat.{ℕ}
+use native.Mathlib.Omega.{arith}
+use Rattle.exactness.specs.Promises.{Exact}
+use Rattle.ring.specs.Ring.{Element}
+use Rattle.ring.specs.Invertible.{inverseOf}
+use Rattle.scheme.specs.Scheme.{Triple, Outcome, found, failed, setting}
+use Rattle.scheme.proofs.Exactness.{exact-by-inverse, found-ternary}
+use Rattle.encoding.proofs.Codes.{ternaryOf-ternary}
+use Rattle.sampling.proofs.NoiseLaws.{ternaryNoise-ternary}
+use Rattle.derivation.specs.Derivation.{tagOf, genuine?}
+use Rattle.records.specs.declared.Refusal.the-variants.{TagMismatch}
+use Rattle.records.specs.declared.Answer.the-variants.{Done}
+use Rattle.records.specs.Answers.{number, unless}
+use Rattle.records.specs.Records.{firstOf, secondOf, secretOf}
+use Rattle.calls.specs.Calls.{tripleOf, noiseTriple, outcome, outcomeAnswer, openedAnswer}
+use Rattle.calls.specs.Promises.{Accepted, Ternaries}
+use Rattle.calls.proofs.AnswerLaws.{unless-refuses}
+use Rattle.derivation.proofs.Laws.{genuine-iff}
+use Rattle.calls.proofs.CheckExact.{accepted-iff}
+
+-- ---- dummies are ternary, whatever bytes are lent
+
+pub coded-ternary : (d : List ℕ) → Ternaries (tripleOf d)
+coded-ternary d = record { r-ternary = ternaryOf-ternary _; e1-ternary = ternaryOf-ternary _; e2-ternary = ternaryOf-ternary _ }
+
+pub noise-ternary : (noise : List ℕ) → Ternaries (noiseTriple noise)
+noise-ternary noise = record { r-ternary = ternaryNoise-ternary _; e1-ternary = ternaryNoise-ternary _; e2-ternary = ternaryNoise-ternary _ }
+
+-- ---- exactness of the outcome, for an accepted key
+
+pub outcome-exact : (k c1 c2 : List ℕ) (dummy : Triple) → Accepted k → Element c1 → Element c2 → Ternaries dummy
+    → Exact setting (firstOf k) (secondOf k) (inverseOf (secondOf k)) (secretOf k) c1 c2 dummy
+outcome-exact k c1 c2 dummy accepted =
+    let (w, unit, matches) = accepted-iff k .0 accepted in
+    exact-by-inverse (firstOf k) (secondOf k) (secretOf k) c1 c2 dummy (w .front .first-words) (w .front .second-words) (ternaryOf-ternary _)
+    unit matches
+
+pub outcome-ternary : (k c1 c2 : List ℕ) (dummy t : Triple) → outcome k dummy c1 c2 ≡ found t → Ternaries t
+unfolding outcome
+outcome-ternary k c1 c2 dummy t e = found-ternary (firstOf k) (secondOf k) (inverseOf (secondOf k)) (secretOf k) dummy c1 c2 t e
+
+-- ---- 0 and 9 of bare opening
+
+pub found-answer : (o : Outcome) → ((t : Triple) × (o ≡ found t)) ↔ (number (outcomeAnswer o) ≡ 0)
+found-answer o = (λ (t, e). ap (λ (x : Outcome). number (outcomeAnswer x)) e, says o)
+  where
+    says : (o : Outcome) → number (outcomeAnswer o) ≡ 0 → (t : Triple) × (o ≡ found t)
+    says (found t) e = (t, refl)
+    says failed e = absurd (omega arith)
+
+pub failed-answer : (o : Outcome) → (o ≡ failed) ↔ (number (outcomeAnswer o) ≡ 9)
+failed-answer o = (λ e. ap (λ (x : Outcome). number (outcomeAnswer x)) e, says o)
+  where
+    says : (o : Outcome) → number (outcomeAnswer o) ≡ 9 → o ≡ failed
+    says (found t) e = absurd (omega arith)
+    says failed e = refl
+
+-- ---- 0, 10 and 9 of opening a sealed entry
+
+pub right-tag : (t : Triple) (body tag : List ℕ) → tag ≡ tagOf (t .r) (t .e1) (t .e2) body → openedAnswer (found t) body tag ≡ Done
+right-tag t body tag e = rw (genuine-iff (t .r) (t .e1) (t .e2) body tag .1 e)
+
+pub wrong-tag : (t : Triple) (body tag : List ℕ) → ¬ (tag ≡ tagOf (t .r) (t .e1) (t .e2) body) → number (openedAnswer (found t) body tag) ≡ 10
+wrong-tag t body tag other =
+    unless-refuses (genuine? (t .r) (t .e1) (t .e2) body tag) TagMismatch .1
+    (not-eq-not .0 (λ e. other (genuine-iff (t .r) (t .e1) (t .e2) body tag .0 e)))
+
+pub found-opened : (o : Outcome) (body tag : List ℕ)
+    → ((t : Triple) × (o ≡ found t)) ↔ ((number (openedAnswer o body tag) ≡ 0) ⊎ (number (openedAnswer o body tag) ≡ 10))
+found-opened o body tag = (λ (t, e). rw e (either (genuine? (t .r) (t .e1) (t .e2) body tag)), says o)
+  where
+    either : (genuine : Bool) → (number (unless genuine TagMismatch Done) ≡ 0) ⊎ (number (unless genuine TagMismatch Done) ≡ 10)
+    either true = inl refl
+    either false = inr refl
+
+    says : (o : Outcome) → (number (openedAnswer o body tag) ≡ 0) ⊎ (number (openedAnswer o body tag) ≡ 10) → (t : Triple) × (o ≡ found t)
+    says (found t) e = (t, refl)
+    says failed (inl e) = absurd (omega arith)
+    says failed (inr e) = absurd (omega arith)
+
+pub failed-opened : (o : Outcome) (body tag : List ℕ) → (o ≡ failed) ↔ (number (openedAnswer o body tag) ≡ 9)
+failed-opened o body tag = (λ e. ap (λ (x : Outcome). number (openedAnswer x body tag)) e, says o)
+  where
+    not-nine : (genuine : Bool) → ¬ (number (unless genuine TagMismatch Done) ≡ 9)
+    not-nine true e = omega arith
+    not-nine false e = omega arith
+
+    says : (o : Outcome) → number (openedAnswer o body tag) ≡ 9 → o ≡ failed
+    says (found t) e = absurd (not-nine (genuine? (t .r) (t .e1) (t .e2) body tag) e)
+    says failed e = refl

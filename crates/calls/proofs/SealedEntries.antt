@@ -1,0 +1,109 @@
+-- Sealed entries: what is read from what is written, and that the key opens it.
+use mathlib.Core.Path.{_≡_, sym, ap, _∙_}
+use mathlib.Core.List.{List, _++_, append-assoc}
+use Prim.Native.Nat.{ℕ}
+use lib.ListN.{length}
+use Rattle.scheme.specs.Scheme.{Triple, masked}
+use Rattle.gf128.specs.Bytes.{Block}
+use Rattle.derivation.specs.Derivation.{bodyOf, tagOf, entryOf}
+use Rattle.records.specs.declared.Answer.the-variants.{Done}
+use Rattle.records.specs.Answers.{number}
+use Rattle.records.specs.Records.{firstOf, secondOf, bodyPart, tagPart, recordBytes}
+use Rattle.calls.specs.Calls.{noiseTriple, sealAnswer, sealedWith, sealedBytes, sealOut, openAnswer, openOut}
+use Rattle.calls.specs.WellFormed.{WellFormedEntry}
+use Rattle.calls.specs.Promises.{Accepted, PublicOf}
+use Rattle.calls.proofs.AnswerLaws.{on-done}
+use Rattle.calls.proofs.WrittenRecords.{length-both, part-behind, part-end, length-record, record-first, record-second, record-well-formed}
+use Rattle.derivation.proofs.Laws.{bodyOf-block, tagOf-block, entryOf-bodyOf}
+use Rattle.calls.proofs.WhenDone.{seal-done}
+use Rattle.calls.proofs.Outcomes.{noise-ternary}
+use Rattle.calls.proofs.OpenExact.{open-exact}
+use Rattle.calls.proofs.Encapsulations.{masked-element, public-accepted, encapsulates}
+
+-- ---- the parts of an entry that is sealed with the triple t
+
+module _ (p : List ℕ) (t : Triple) {entry : List ℕ} (h : Block entry) where
+  abbrev c1 : List ℕ
+  c1 = masked (firstOf p) (t .r) (t .e1)
+
+  abbrev c2 : List ℕ
+  c2 = masked (secondOf p) (t .r) (t .e2)
+
+  abbrev body : List ℕ
+  body = bodyOf (t .r) (t .e1) (t .e2) entry
+
+  abbrev tag : List ℕ
+  tag = tagOf (t .r) (t .e1) (t .e2) body
+
+  abbrev front : List ℕ
+  front = recordBytes 80 76 71 c1 c2
+
+  body-block : Block body
+  body-block = bodyOf-block (t .r) (t .e1) (t .e2) h
+
+  tag-block : Block tag
+  tag-block = tagOf-block (t .r) (t .e1) (t .e2) body-block
+
+  behind-front : sealedWith p t entry ≡ front ++ (body ++ tag)
+  unfolding sealedWith
+  behind-front = append-assoc front body tag
+
+  pub sealed-first : firstOf (sealedWith p t entry) ≡ c1
+  sealed-first = ap firstOf behind-front ∙ record-first 80 76 71 c1 c2 (body ++ tag) (masked-element _ _ _)
+
+  pub sealed-second : secondOf (sealedWith p t entry) ≡ c2
+  sealed-second = ap secondOf behind-front ∙ record-second 80 76 71 c1 c2 (body ++ tag) (masked-element _ _ _)
+
+  pub sealed-body : bodyPart (sealedWith p t entry) ≡ body
+  unfolding sealedWith
+  sealed-body = part-behind front body tag (length-record 80 76 71 c1 c2) (body-block .size)
+
+  before-tag : length (front ++ body) ≡ 4117
+  before-tag = length-both front body (length-record 80 76 71 c1 c2) (body-block .size)
+
+  pub sealed-tag : tagPart (sealedWith p t entry) ≡ tag
+  unfolding sealedWith
+  sealed-tag = part-end (front ++ body) tag before-tag (tag-block .size)
+
+  sealed-size : length (sealedWith p t entry) ≡ 4133
+  unfolding sealedWith
+  sealed-size = length-both (front ++ body) tag before-tag (tag-block .size)
+
+  pub sealed-well-formed : WellFormedEntry (sealedWith p t entry)
+  sealed-well-formed = record {
+    size = sealed-size;
+    front = rw behind-front (record-well-formed 80 76 71 c1 c2 (body ++ tag) (masked-element _ _ _) (masked-element _ _ _));
+  }
+
+-- ---- seal, then open
+
+module _ (k p noise entry : List ℕ) (accepted : Accepted k) (public : PublicOf p k) (noise-size : length noise ≡ 1536) (block : Block entry) where
+  seals : (room : ℕ) → room ≡ 4133 → sealAnswer p noise entry room ≡ Done
+  seals room h = seal-done p noise entry room .1 ((public .size, noise-size, block .size, h), public-accepted public accepted)
+
+  seal-writes : (sealed : List ℕ) → length sealed ≡ 4133 → sealOut p noise entry sealed ≡ sealedWith p (noiseTriple noise) entry
+  unfolding sealOut sealedBytes
+  seal-writes sealed h = on-done _ sealed (seals (length sealed) h)
+
+  module _ (dummy out : List ℕ) (dummy-size : length dummy ≡ 1536) (room : length out ≡ 16) where
+    abbrev t : Triple
+    t = noiseTriple noise
+
+    abbrev e : List ℕ
+    e = sealedWith p t entry
+
+    opens : (number (openAnswer k e dummy (length out)) ≡ 0) × (openOut k e dummy out ≡ entryOf (t .r) (t .e1) (t .e2) (bodyPart e))
+    opens =
+        open-exact k e dummy out accepted (sealed-well-formed p t block) dummy-size room .opens t
+        (encapsulates public t (noise-ternary noise) (sealed-first p t block) (sealed-second p t block))
+        (sealed-tag p t block ∙ ap (tagOf (t .r) (t .e1) (t .e2)) (sym (sealed-body p t block)))
+
+    pub seal-then-open : (sealed : List ℕ) → length sealed ≡ 4133
+        → (number (sealAnswer p noise entry (length sealed)) ≡ 0)
+        × (number (openAnswer k (sealOut p noise entry sealed) dummy (length out)) ≡ 0)
+        × (openOut k (sealOut p noise entry sealed) dummy out ≡ entry)
+    seal-then-open sealed h = rw (seal-writes sealed h) (
+      ap number (seals (length sealed) h),
+      opens .0,
+      opens .1 ∙ ap (entryOf (t .r) (t .e1) (t .e2)) (sealed-body p t block) ∙ entryOf-bodyOf (t .r) (t .e1) (t .e2) block,
+    )

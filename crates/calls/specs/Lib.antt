@@ -1,0 +1,5 @@
+-- The public calls.
+pub mod Calls
+-- What is promised of them.
+pub mod WellFormed
+pub mod Promises

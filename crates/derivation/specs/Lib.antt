@@ -1,0 +1,3 @@
+-- Definitions that the contracts cite: document 01, "Bytes".
+pub mod Triple
+pub mod Derivation

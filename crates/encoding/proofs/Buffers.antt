@@ -1,0 +1,46 @@
+-- Laws of `putFront`, and of a buffer that is written part by part.
+use mathlib.Core.Path.{_≡_, sym, ap, _∙_}
+use mathlib.Core.List.{List, _++_, append-assoc, append-nil}
+use Prim.Native.Nat.{ℕ, _+_, _<_, _≤_}
+use native.Mathlib.Omega.{arith}
+use lib.ListN.{length, take, drop, length-drop, drop-of-length-le}
+use lib.Seq.{take-at, drop-at, drop-drop, length-take-le}
+use borrow.Author.Tests.{le-leb, lt-leb}
+use Rattle.encoding.specs.Buffers.{putFront}
+
+-- there is room
+pub put-fits : (new old : List ℕ) → length new ≤ length old → putFront new old ≡ new ++ drop (length new) old
+unfolding putFront
+put-fits new old h = rw (le-leb (length new) (length old) h)
+
+-- the buffer is too short
+pub put-short : (new old : List ℕ) → length old < length new → putFront new old ≡ old
+unfolding putFront
+put-short new old h = rw (lt-leb (length new) (length old) h)
+
+-- it has the length of what is written
+pub put-exact : (new old : List ℕ) → length new ≡ length old → putFront new old ≡ new
+put-exact new old e =
+    put-fits new old (omega arith) ∙ rw (drop-of-length-le old {i = length new} (omega arith)) (append-nil new)
+
+-- the first k entries were lent, and are now `new`
+pub put-front : (new old : List ℕ) {part : List ℕ} {k : ℕ} → length new ≡ k → k ≤ length old → part ≡ new → part ++ drop k old ≡ putFront new old
+put-front new old e h p = sym (put-fits new old (omega arith) ∙ rw (e, p))
+
+-- ---- part by part: `front` is written, and what stands behind it is as it came
+
+-- `&mut out[a..a + k]` is lent, and `new` is put there
+pub put-next : (front new old out : List ℕ) (a k : ℕ) {e : ℕ} → out ≡ front ++ drop a old → length front ≡ a → length new ≡ k → a + k ≡ e
+    → e ≤ length old
+    → take a out ++ (putFront new (take k (drop a out)) ++ drop k (drop a out)) ≡ (front ++ new) ++ drop e old
+put-next front new old out a k {e} o f l m h =
+    let before : take a out ≡ front = ap (take a) o ∙ take-at front (drop a old) a f in
+    let behind : drop a out ≡ drop a old = ap (drop a) o ∙ drop-at front (drop a old) a f in
+    let room : length (take k (drop a out)) ≡ k = length-take-le k (drop a out) (rw behind (rw (length-drop a old) (omega arith))) in
+    let part : putFront new (take k (drop a out)) ≡ new = put-exact new (take k (drop a out)) (l ∙ sym room) in
+    let rest : drop k (drop a out) ≡ drop e old = ap (drop k) behind ∙ drop-drop k a old ∙ ap (λ (j : ℕ). drop j old) m in
+    rw (before, part, rest) (sym (append-assoc front new (drop e old)))
+
+-- all of it is written
+pub put-all : (front old : List ℕ) (k : ℕ) → length old ≤ k → front ++ drop k old ≡ front
+put-all front old k h = rw (drop-of-length-le old h) (append-nil front)

@@ -1,0 +1,108 @@
+-- Decoders and encoders undo each other.
+use mathlib.Core.Path.{_≡_, sym, ap, ap₂, _∙_}
+use mathlib.Core.List.{List, _++_}
+use Prim.Native.Nat.{ℕ, _+_, _*_, _/_, _%_, _<_}
+use native.Mathlib.Nat.{lt-trans}
+use native.Mathlib.Decide.{decLt}
+use native.Mathlib.Omega.{arith}
+use lib.ListN.{length, getD}
+use Rattle.lists.proofs.Tables.{table-is}
+use Rattle.algebra.specs.Numbers.{Below}
+use Rattle.algebra.proofs.Numbers.{below-at, below-by}
+use Rattle.modq.proofs.Prime.{q-positive}
+use Rattle.ring.specs.Ring.{q, n, Element}
+use Rattle.ring.specs.Centred.{Ternary}
+use Rattle.ring.proofs.Sizes.{ternary-entry}
+use Rattle.encoding.specs.Digits.{digitAt}
+use Rattle.encoding.specs.Words.{wordAt, words, elementOf, elementBytes}
+use Rattle.encoding.specs.Codes.{codeAt, coefficientOf, codeOf, ternaryOf, firstInvalidCode, packedAt, ternaryBytes}
+use Rattle.encoding.proofs.Digits.{digit-first, digit-in}
+use Rattle.encoding.proofs.Words.{words-entry, elementOf-entry, elementOf-append, length-elementBytes, elementBytes-entry}
+use Rattle.encoding.proofs.Codes.{code-coefficient, coefficient-code, none-invalid, ternaryOf-entry, ternaryOf-append, length-ternaryBytes, ternaryBytes-code}
+
+-- ---- elements
+
+word-bytes : (a : List ℕ) (k : ℕ) → k < n → getD a k 0 < 65536 → wordAt (elementBytes a) k ≡ getD a k 0
+word-bytes a k h l =
+    ap₂ (λ (x y : ℕ). x + 256 * y)
+    (elementBytes-entry a (2 * k) (omega arith) ∙ digit-first 256 2 a k (omega arith))
+    (elementBytes-entry a (2 * k + 1) (omega arith) ∙ digit-in 256 2 a k 1 (omega arith))
+    ∙ omega arith
+
+-- 1,024 words of 16 bits
+pub elementOf-bytes : (a : List ℕ) → length a ≡ n → Below 65536 a → elementOf (elementBytes a) ≡ a
+unfolding elementOf
+elementOf-bytes a size below = sym (table-is n _ a 0 size (λ k h. sym (entry k h)))
+  where
+    entry : (k : ℕ) → k < n → getD (words (elementBytes a)) k 0 ≡ getD a k 0
+    entry k h =
+        words-entry (elementBytes a) k (omega (arith, length-elementBytes a))
+        ∙ word-bytes a k h (below-at 65536 (omega arith) a below k)
+
+-- 2,048 bytes
+pub bytes-elementOf : (bytes : List ℕ) → length bytes ≡ 2048 → Below 256 bytes → elementBytes (elementOf bytes) ≡ bytes
+unfolding elementBytes
+bytes-elementOf bytes size below = sym (table-is 2048 _ bytes 0 size (λ i h. sym (entry i h (decLt (i % 2) 1))))
+  where
+    word : (i : ℕ) → i < 2048 → getD (elementOf bytes) (i / 2) 0 ≡ wordAt bytes (i / 2)
+    word i h = elementOf-entry bytes (i / 2) (omega arith) ∙ words-entry bytes (i / 2) (omega arith)
+
+    byte : (i : ℕ) → getD bytes i 0 < 256
+    byte i = below-at 256 (omega arith) bytes below i
+
+    entry : (i : ℕ) → i < 2048 → Dec (i % 2 < 1) → digitAt 256 2 (elementOf bytes) i ≡ getD bytes i 0
+    entry i h (yes l) =
+        let even : i % 2 ≡ 0 = omega arith in
+        let at : 2 * (i / 2) ≡ i = omega arith in
+        rw (even, word i h) (omega (arith, byte (2 * (i / 2)))) ∙ ap (λ (m : ℕ). getD bytes m 0) at
+    entry i h (no l) =
+        let odd : i % 2 ≡ 1 = omega arith in
+        let at : 2 * (i / 2) + 1 ≡ i = omega arith in
+        rw (odd, word i h) (omega (arith, byte (2 * (i / 2)), byte (2 * (i / 2) + 1))) ∙ ap (λ (m : ℕ). getD bytes m 0) at
+
+-- what a record reader finds where an element was written
+pub elementOf-written : (a rest : List ℕ) → Element a → elementOf (elementBytes a ++ rest) ≡ a
+elementOf-written a rest e =
+    elementOf-append (elementBytes a) rest (length-elementBytes a)
+    ∙ elementOf-bytes a (e .size) (below-by 65536 a (λ k h. lt-trans (below-at q q-positive a (e .below) k) (omega arith)))
+
+-- ---- ternary polynomials
+
+pub ternaryOf-bytes : (t : List ℕ) → Ternary t → ternaryOf (ternaryBytes t) ≡ t
+unfolding ternaryOf
+ternaryOf-bytes t e = sym (table-is n _ t 0 (e .0 .size) (λ k h. sym (entry k h)))
+  where
+    entry : (k : ℕ) → k < n → coefficientOf (codeAt (ternaryBytes t) k) ≡ getD t k 0
+    entry k h = ap (λ (code : ℕ). coefficientOf code) (ternaryBytes-code t k h) ∙ coefficient-code (getD t k 0) (ternary-entry t e k h)
+
+-- a number below 256 by its digits to base 4
+digits : (b c0 c1 c2 c3 : ℕ) → b < 256 → c0 ≡ b % 4 → c1 ≡ b / 4 % 4 → c2 ≡ b / 16 % 4 → c3 ≡ b / 64 % 4
+    → c0 + 4 * c1 + 16 * c2 + 64 * c3 ≡ b
+digits b c0 c1 c2 c3 h e0 e1 e2 e3 =
+    let s1 : b ≡ 4 * (b / 4) + c0 = omega arith in
+    let s2 : b / 4 ≡ 4 * (b / 16) + c1 = omega arith in
+    let s3 : b / 16 ≡ 4 * (b / 64) + c2 = omega arith in
+    let s4 : b / 64 ≡ c3 = omega arith in
+    sum b (b / 4) (b / 16) (b / 64) c0 c1 c2 c3 s1 s2 s3 s4
+  where
+    sum : (b b1 b2 b3 c0 c1 c2 c3 : ℕ) → b ≡ 4 * b1 + c0 → b1 ≡ 4 * b2 + c1 → b2 ≡ 4 * b3 + c2 → b3 ≡ c3 → c0 + 4 * c1 + 16 * c2 + 64 * c3 ≡ b
+    sum b b1 b2 b3 c0 c1 c2 c3 s1 s2 s3 s4 = omega arith
+
+-- 256 bytes without a code 3
+pub bytes-ternaryOf : (bytes : List ℕ) → length bytes ≡ 256 → Below 256 bytes → firstInvalidCode bytes ≡ n → ternaryBytes (ternaryOf bytes) ≡ bytes
+unfolding ternaryBytes
+bytes-ternaryOf bytes size below valid = sym (table-is 256 _ bytes 0 size (λ i h. sym (entry i h)))
+  where
+    code : (k : ℕ) → k < n → codeOf (getD (ternaryOf bytes) k 0) ≡ codeAt bytes k
+    code k h = ap (λ (c : ℕ). codeOf c) (ternaryOf-entry bytes k h) ∙ code-coefficient (codeAt bytes k) (none-invalid bytes valid k h)
+
+    entry : (i : ℕ) → i < 256 → packedAt (ternaryOf bytes) i ≡ getD bytes i 0
+    entry i h =
+        digits (getD bytes i 0) _ _ _ _ (below-at 256 (omega arith) bytes below i)
+        (code (4 * i) (omega arith) ∙ digit-first 4 4 bytes i (omega arith))
+        (code (4 * i + 1) (omega arith) ∙ digit-in 4 4 bytes i 1 (omega arith))
+        (code (4 * i + 2) (omega arith) ∙ digit-in 4 4 bytes i 2 (omega arith))
+        (code (4 * i + 3) (omega arith) ∙ digit-in 4 4 bytes i 3 (omega arith))
+
+pub ternaryOf-written : (t rest : List ℕ) → Ternary t → ternaryOf (ternaryBytes t ++ rest) ≡ t
+ternaryOf-written t rest e = ternaryOf-append (ternaryBytes t) rest (length-ternaryBytes t) ∙ ternaryOf-bytes t e

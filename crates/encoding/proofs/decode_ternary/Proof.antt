@@ -1,0 +1,148 @@
+use mathlib.Core.Path.{_≡_, refl, sym, ap, _∙_}
+use Prim.Native.Nat.{ℕ, _+_, _-_, _*_, _/_, _<_}
+use native.Mathlib.Omega.{arith}
+use lib.ListN.{getD}
+use denote.Ref.{now}
+use Rattle.lists.specs.Table.{table}
+use Rattle.lists.proofs.Fill.{ZeroFilled}
+use Rattle.ring.specs.Ring.{n}
+use Rattle.encoding.specs.Codes.{codeAt, coefficientOf, ternaryOf}
+use Rattle.encoding.proofs.Extra.{zero-filled-start, zero-filled-next, zero-filled-table}
+use Rattle.encoding.proofs.Digits.{digit-first, digit-in, digit-missing}
+use borrow.Author.Needs.{needs}
+use Rattle.encoding.proofs.decode_ternary.Statement.{statement}
+use Rattle.encoding.proofs.decode_ternary.Tie as tie
+
+abbrev Inv-loop : tie.InvT-loop
+Inv-loop bytes t₀ count i₀ t i = ZeroFilled n (table (4 * count) (λ k. coefficientOf (codeAt bytes k))) t (4 * i)
+
+abbrev μ-loop : tie.MeasureT-loop
+μ-loop bytes t₀ count i₀ t i = count - i
+
+lesser-requires : tie.Need-lesser-requires Inv-loop μ-loop
+lesser-requires c κs = search needs
+
+loop-holds : tie.Need-loop-holds Inv-loop μ-loop
+loop-holds c = zero-filled-start n _ _ _ (omega arith) refl
+
+shared-slice-read-b : tie.Need-shared-slice-read-b Inv-loop μ-loop
+shared-slice-read-b c = search needs
+
+coefficient-requires : tie.Need-coefficient-requires Inv-loop μ-loop
+coefficient-requires c κs = search needs
+
+mul-t : tie.Need-mul-t Inv-loop μ-loop
+mul-t c = search needs
+
+mul-t-2 : tie.Need-mul-t-2 Inv-loop μ-loop
+mul-t-2 c = search needs
+
+array-write-t : tie.Need-array-write-t Inv-loop μ-loop
+array-write-t c = search needs
+
+coefficient-requires-2 : tie.Need-coefficient-requires-2 Inv-loop μ-loop
+coefficient-requires-2 c κs = search needs
+
+mul-t-3 : tie.Need-mul-t-3 Inv-loop μ-loop
+mul-t-3 c = search needs
+
+add-t : tie.Need-add-t Inv-loop μ-loop
+add-t c = search needs
+
+mul-t-4 : tie.Need-mul-t-4 Inv-loop μ-loop
+mul-t-4 c = search needs
+
+array-write-t-2 : tie.Need-array-write-t-2 Inv-loop μ-loop
+array-write-t-2 c = search needs
+
+coefficient-requires-3 : tie.Need-coefficient-requires-3 Inv-loop μ-loop
+coefficient-requires-3 c κs = search needs
+
+mul-t-5 : tie.Need-mul-t-5 Inv-loop μ-loop
+mul-t-5 c = search needs
+
+add-t-2 : tie.Need-add-t-2 Inv-loop μ-loop
+add-t-2 c = search needs
+
+mul-t-6 : tie.Need-mul-t-6 Inv-loop μ-loop
+mul-t-6 c = search needs
+
+array-write-t-3 : tie.Need-array-write-t-3 Inv-loop μ-loop
+array-write-t-3 c = search needs
+
+coefficient-requires-4 : tie.Need-coefficient-requires-4 Inv-loop μ-loop
+coefficient-requires-4 c κs = search needs
+
+mul-t-7 : tie.Need-mul-t-7 Inv-loop μ-loop
+mul-t-7 c = search needs
+
+add-t-3 : tie.Need-add-t-3 Inv-loop μ-loop
+add-t-3 c = search needs
+
+mul-t-8 : tie.Need-mul-t-8 Inv-loop μ-loop
+mul-t-8 c = search needs
+
+array-write-t-4 : tie.Need-array-write-t-4 Inv-loop μ-loop
+array-write-t-4 c = search needs
+
+add-i : tie.Need-add-i Inv-loop μ-loop
+add-i c = search needs
+
+loop-less : tie.Need-loop-less Inv-loop μ-loop
+loop-less c = search needs
+
+loop-again : tie.Need-loop-again Inv-loop μ-loop
+loop-again c =
+    let at = c .before .before .before .before .before .before in
+    let bytes = now (at .before .before .before .args .bytes) in
+    let i = at .loop .i in
+    let b : getD bytes i 0 < 256 = omega (arith, c .before .before .before .before .shared-slice-known2 .given i) in
+    let last : getD bytes i 0 / 64 ≡ codeAt bytes (4 * i + 3) = sym (digit-in 4 4 bytes i 3 (omega arith) ∙ omega arith) in
+    let rule : ℕ → ℕ = λ k. coefficientOf (codeAt bytes k) in
+    zero-filled-next rule
+    (zero-filled-next rule
+    (zero-filled-next rule
+    (zero-filled-next rule (at .loop .inv) (omega arith) (c .before .before .before .coefficient .ensures ∙ ap coefficientOf (sym (digit-first 4 4 bytes i (omega arith)))) refl)
+    (omega arith) (c .before .before .coefficient2 .ensures ∙ ap coefficientOf (sym (digit-in 4 4 bytes i 1 (omega arith)))) (omega arith))
+    (omega arith) (c .before .coefficient3 .ensures ∙ ap coefficientOf (sym (digit-in 4 4 bytes i 2 (omega arith)))) (omega arith))
+    (omega arith) (c .coefficient4 .ensures ∙ ap coefficientOf last) (omega arith)
+
+returns : tie.Need-returns Inv-loop μ-loop
+unfolding ternaryOf
+returns c =
+    let bytes = now (c .before .before .before .before .args .bytes) in
+    zero-filled-table (λ k. coefficientOf (codeAt bytes k)) (c .before .loop .inv) (omega arith) (omega arith)
+    (λ k l h. ap coefficientOf (digit-missing 4 4 bytes k (omega arith)))
+
+pub decode-ternary-spec : {M : Type 1} → statement M
+decode-ternary-spec =
+    tie.close
+    (tie.spec
+    Inv-loop
+    μ-loop
+    lesser-requires
+    loop-holds
+    shared-slice-read-b
+    coefficient-requires
+    mul-t
+    mul-t-2
+    array-write-t
+    coefficient-requires-2
+    mul-t-3
+    add-t
+    mul-t-4
+    array-write-t-2
+    coefficient-requires-3
+    mul-t-5
+    add-t-2
+    mul-t-6
+    array-write-t-3
+    coefficient-requires-4
+    mul-t-7
+    add-t-3
+    mul-t-8
+    array-write-t-4
+    add-i
+    loop-less
+    loop-again
+    returns)

@@ -1,0 +1,99 @@
+use mathlib.Core.Path.{_≡_, refl, sym, _∙_}
+use Prim.Native.Nat.{_+_, _-_, _*_, _/_}
+use native.Mathlib.Omega.{arith}
+use lib.ListN.{getD, length-set}
+use mir.Syntax.{w16}
+use mir.Val.{Fits}
+use Rattle.lists.specs.Table.{table}
+use Rattle.lists.proofs.Tables.{length-table}
+use Rattle.lists.proofs.Fill.{Filled, filled-none, filled-all}
+use Rattle.encoding.specs.Digits.{digitAt}
+use Rattle.encoding.specs.Words.{elementBytes}
+use Rattle.encoding.proofs.Extra.{filled-next}
+use Rattle.encoding.proofs.Digits.{digit-first, digit-in}
+use borrow.Author.Needs.{needs}
+use Rattle.encoding.proofs.put_element.Statement.{statement}
+use Rattle.encoding.proofs.put_element.Tie as tie
+
+abbrev Inv-loop : tie.InvT-loop
+Inv-loop out₀ a k₀ out k = Filled 2048 (table 2048 (digitAt 256 2 a)) out (2 * k)
+
+abbrev μ-loop : tie.MeasureT-loop
+μ-loop out₀ a k₀ out k = 1024 - k
+
+loop-holds : tie.Need-loop-holds Inv-loop μ-loop
+loop-holds c = filled-none _ _ (length-table 2048 _) (c .pre)
+
+mul-w : tie.Need-mul-w Inv-loop μ-loop
+mul-w c = search needs
+
+array-read-w : tie.Need-array-read-w Inv-loop μ-loop
+array-read-w c = search needs
+
+cast-out : tie.Need-cast-out Inv-loop μ-loop
+cast-out c = search needs
+
+mul-out : tie.Need-mul-out Inv-loop μ-loop
+mul-out c = search needs
+
+slice-write-out : tie.Need-slice-write-out Inv-loop μ-loop
+slice-write-out c = omega (arith, c .before .loop .inv .size)
+
+cast-out-2 : tie.Need-cast-out-2 Inv-loop μ-loop
+cast-out-2 c =
+    let w : Fits w16 (getD (c .before .before .args .t1) (c .before .loop .k) 0) = search needs in
+    omega (arith, w .fits)
+
+mul-out-2 : tie.Need-mul-out-2 Inv-loop μ-loop
+mul-out-2 c = search needs
+
+add-out : tie.Need-add-out Inv-loop μ-loop
+add-out c = search needs
+
+slice-write-out-2 : tie.Need-slice-write-out-2 Inv-loop μ-loop
+slice-write-out-2 c = simp length-set (omega (arith, c .before .loop .inv .size))
+
+add-k : tie.Need-add-k Inv-loop μ-loop
+add-k c = search needs
+
+loop-less : tie.Need-loop-less Inv-loop μ-loop
+loop-less c = search needs
+
+loop-again : tie.Need-loop-again Inv-loop μ-loop
+loop-again c =
+    let a = c .before .before .args .t1 in
+    let k = c .before .loop .k in
+    let w : Fits w16 (getD a k 0) = search needs in
+    let high : getD a k 0 / 256 ≡ digitAt 256 2 a (2 * k + 1) = sym (digit-in 256 2 a k 1 (omega arith) ∙ omega (arith, w .fits)) in
+    filled-next (digitAt 256 2 a)
+    (filled-next (digitAt 256 2 a) (c .before .loop .inv) (omega arith) (sym (digit-first 256 2 a k (omega arith))) refl)
+    (omega arith) high (omega arith)
+
+same-length : tie.Need-same-length Inv-loop μ-loop
+same-length c = c .before .loop .inv .size ∙ sym (c .before .before .pre)
+
+returns : tie.Need-returns Inv-loop μ-loop
+unfolding elementBytes
+returns c = filled-all (c .before .loop .inv) (omega arith)
+
+pub put-element-spec : {M : Type 1} → statement M
+put-element-spec =
+    tie.close
+    (tie.spec
+    Inv-loop
+    μ-loop
+    loop-holds
+    mul-w
+    array-read-w
+    cast-out
+    mul-out
+    slice-write-out
+    cast-out-2
+    mul-out-2
+    add-out
+    slice-write-out-2
+    add-k
+    loop-less
+    loop-again
+    same-length
+    returns)

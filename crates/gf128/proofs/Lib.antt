@@ -1,0 +1,15 @@
+-- Laws of xor and of lists of bytes.
+pub mod Xor
+pub mod ByteLists
+-- The product on two words and by Horner's rule, and the field's laws on numbers.
+pub mod TwoWords
+pub mod Horner
+pub mod NumberLaws
+-- Elements as bytes, and the field's laws on them.
+pub mod Digits
+pub mod FieldLaws
+-- The tag, and comparison.
+pub mod TagLaws
+pub mod Comparison
+-- The worked example.
+pub mod WorkedExamples

@@ -1,0 +1,8 @@
+-- The field, its elements as bytes, and the tag.
+pub mod Field
+pub mod Bytes
+pub mod Powers
+-- what the private steps of the product keep
+pub mod Words
+-- the worked example of document 01
+pub mod Examples

@@ -1,0 +1,71 @@
+use mathlib.Core.Path.{sym, ap, ap₂, _∙_}
+use lib.ListN.{length}
+use Rattle.gf128.specs.Bytes.{product}
+use Rattle.vectors.specs.Fields.{word32}
+use Rattle.vectors.proofs.Answers.{tells-no, tells-both, tells-as}
+use borrow.Author.Needs.{needs}
+use Rattle.gf128_vectors.proofs.agrees.Statement.{statement}
+use Rattle.gf128_vectors.proofs.agrees.Tie as tie
+
+field-requires : tie.Need-field-requires
+field-requires c κs = search needs
+
+word-requires : tie.Need-word-requires
+word-requires c κs = search needs
+
+returns : tie.Need-returns
+returns c = tells-no (λ a. c .if1 .taken (c .before .word .ensures ∙ ap word32 (c .before .before .field .ensures) ∙ a .0))
+
+field-requires-2 : tie.Need-field-requires-2
+field-requires-2 c κs = search needs
+
+block-requires : tie.Need-block-requires
+block-requires c κs = ap length (c .field2 .ensures) ∙ c .before .before .before .before .before .pre .x
+
+field-requires-3 : tie.Need-field-requires-3
+field-requires-3 c κs = search needs
+
+block-requires-2 : tie.Need-block-requires-2
+block-requires-2 c κs = ap length (c .field3 .ensures) ∙ c .before .before .before .before .before .before .before .pre .y
+
+product-requires : tie.Need-product-requires
+product-requires c κs = search needs
+
+slice-aggregate-same : tie.Need-slice-aggregate-same
+slice-aggregate-same c = search needs
+
+field-requires-4 : tie.Need-field-requires-4
+field-requires-4 c κs = search needs
+
+same-requires : tie.Need-same-requires
+same-requires c κs = search needs
+
+returns-2 : tie.Need-returns-2
+returns-2 c =
+    let multiplied = c .before .before .before in
+    let second = multiplied .before in
+    let first = second .before .before in
+    let zero = first .before .before in
+    tells-both _ (ap word32 (sym (zero .before .before .field .ensures)) ∙ sym (zero .before .word .ensures) ∙ zero .if1 .left)
+    (tells-as _
+    (multiplied .product .ensures
+    ∙ ap₂ product (first .block .ensures ∙ first .before .field2 .ensures) (second .block2 .ensures ∙ second .before .field3 .ensures))
+    (c .before .field4 .ensures)
+    (c .same .ensures))
+
+pub agrees-spec : {M : Type 1} → statement M
+agrees-spec =
+    tie.close
+    (tie.spec
+    field-requires
+    word-requires
+    returns
+    field-requires-2
+    block-requires
+    field-requires-3
+    block-requires-2
+    product-requires
+    slice-aggregate-same
+    field-requires-4
+    same-requires
+    returns-2)

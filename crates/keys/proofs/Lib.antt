@@ -1,0 +1,2 @@
+-- Equal arguments.
+pub mod Equal

@@ -1,0 +1,41 @@
+use mathlib.Core.Path.{ap, ap₂, _∙_}
+use mathlib.Core.Bool.{Bool, decide}
+use mathlib.Core.List.{List}
+use Prim.Native.Nat.{ℕ}
+use Rattle.ntt.specs.Spectrum.{spectrumOf}
+use Rattle.ring.specs.Invertible.{invertible?}
+use Rattle.records.specs.declared.Refusal.the-variants.{NotInvertible}
+use Rattle.records.specs.declared.Answer.the-variants.{Done}
+use Rattle.records.specs.Answers.{unless, andThen}
+use Rattle.calls.specs.Calls.{publicAnswer}
+use borrow.Author.Needs.{needs}
+use Rattle.keys.proofs.read_public_key.Statement.{statement}
+use Rattle.keys.proofs.read_public_key.Tie as tie
+
+read-record-requires : tie.Need-read-record-requires
+read-record-requires c κs = search needs
+
+public-key-requires : tie.Need-public-key-requires
+public-key-requires c κs = search needs
+
+unless-requires : tie.Need-unless-requires
+unless-requires c κs = search needs
+
+and-then-requires : tie.Need-and-then-requires
+and-then-requires c κs = search needs
+
+returns : tie.Need-returns
+unfolding publicAnswer
+returns c =
+    let made = c .before .before .before .before in
+    let read = made .before .before .before .read-record .ensures in
+    let key = made .public-key .ensures in
+    let invertible = key .2 ∙ ap (λ (b : List ℕ). decide (invertible? b)) (read .1 .1) in (
+      c .and-then .ensures ∙ ap₂ andThen (read .0) (c .before .unless .ensures ∙ ap (λ (x : Bool). unless x NotInvertible Done) invertible),
+      (key .0 ∙ ap spectrumOf (read .1 .0), key .1 ∙ ap spectrumOf (read .1 .1)),
+    )
+
+pub read-public-key-spec : {M : Type 1} → statement M
+read-public-key-spec =
+    tie.close
+    (tie.spec read-record-requires public-key-requires unless-requires and-then-requires returns)

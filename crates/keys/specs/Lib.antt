@@ -1,0 +1,2 @@
+-- Keys read off bytes.
+pub mod Prepared

@@ -1,0 +1,27 @@
+use mathlib.Core.Path.{ap, _∙_}
+use Rattle.records.specs.Answers.{number}
+use denote.Ref.{now}
+use Rattle.polka.proofs.Laws.{open-promise}
+use borrow.Author.Needs.{needs}
+use Rattle.polka.proofs.polka_open.Statement.{statement}
+use Rattle.polka.proofs.polka_open.Tie as tie
+
+open-requires : tie.Need-open-requires
+open-requires c κs = search needs
+
+number-requires : tie.Need-number-requires
+number-requires c κs = search needs
+
+same-length : tie.Need-same-length
+same-length c = search needs
+
+returns : tie.Need-returns
+returns c =
+    let made = c .before .before .before in
+    let args = made .before .before .before .before .before .before .args in
+    let n = c .number .ensures ∙ ap number (made .«open» .ensures .0) in
+    let out = made .«open» .ensures .1 .0 in
+    (n, (out, open-promise (now (args .key)) (now (args .sealed)) (now (args .noise)) (now (args .out)) n out))
+
+pub polka-open-spec : {M : Type 1} → statement M
+polka-open-spec = tie.close (tie.spec open-requires number-requires same-length returns)

@@ -1,0 +1,22 @@
+use mathlib.Core.Path.{ap, _∙_}
+use Rattle.records.specs.Answers.{number}
+use borrow.Author.Needs.{needs}
+use Rattle.polka.proofs.polka_seal.Statement.{statement}
+use Rattle.polka.proofs.polka_seal.Tie as tie
+
+seal-requires : tie.Need-seal-requires
+seal-requires c κs = search needs
+
+number-requires : tie.Need-number-requires
+number-requires c κs = search needs
+
+same-length : tie.Need-same-length
+same-length c = search needs
+
+returns : tie.Need-returns
+returns c =
+    let made = c .before .before .before .seal .ensures in
+    (c .number .ensures ∙ ap number (made .0), made .1)
+
+pub polka-seal-spec : {M : Type 1} → statement M
+polka-seal-spec = tie.close (tie.spec seal-requires number-requires same-length returns)

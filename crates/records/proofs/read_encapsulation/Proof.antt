@@ -1,0 +1,54 @@
+use mathlib.Core.Path.{ap₂, _∙_}
+use Rattle.records.specs.Records.{elementsAnswer, encapsulationAnswer}
+use borrow.Author.Needs.{needs}
+use Rattle.records.proofs.read_encapsulation.Statement.{statement}
+use Rattle.records.proofs.read_encapsulation.Tie as tie
+
+sub-decode-element : tie.Need-sub-decode-element
+sub-decode-element c = search needs
+
+part-decode-element-start : tie.Need-part-decode-element-start
+part-decode-element-start c = search needs
+
+part-decode-element-end : tie.Need-part-decode-element-end
+part-decode-element-end c = search needs
+
+decode-element-requires : tie.Need-decode-element-requires
+decode-element-requires c κs = search needs
+
+sub-decode-element-2 : tie.Need-sub-decode-element-2
+sub-decode-element-2 c = search needs
+
+part-decode-element-start-2 : tie.Need-part-decode-element-start-2
+part-decode-element-start-2 c = search needs
+
+part-decode-element-end-2 : tie.Need-part-decode-element-end-2
+part-decode-element-end-2 c = search needs
+
+decode-element-requires-2 : tie.Need-decode-element-requires-2
+decode-element-requires-2 c κs = search needs
+
+check-elements-requires : tie.Need-check-elements-requires
+check-elements-requires c κs = search needs
+
+returns : tie.Need-returns
+unfolding encapsulationAnswer
+returns c =
+    let first = c .before .before .before .decode-element .ensures in
+    let second = c .before .decode-element2 .ensures in
+    (c .check-elements .ensures ∙ ap₂ elementsAnswer first second, (first, second))
+
+pub read-encapsulation-spec : {M : Type 1} → statement M
+read-encapsulation-spec =
+    tie.close
+    (tie.spec
+    sub-decode-element
+    part-decode-element-start
+    part-decode-element-end
+    decode-element-requires
+    sub-decode-element-2
+    part-decode-element-start-2
+    part-decode-element-end-2
+    decode-element-requires-2
+    check-elements-requires
+    returns)

@@ -1,0 +1,50 @@
+-- What a call answers, and document 01's number for it.
+use mathlib.Core.Bool.{Bool, true, false}
+use mathlib.Core.List.{List}
+use Prim.Native.Nat.{ℕ}
+use Rattle.records.specs.declared.Refusal.{Refusal}
+use Rattle.records.specs.declared.Refusal.the-variants.{WrongLength, WrongMark, WrongVersion, CoefficientOutOfRange, InvalidCode, NotInvertible, KeyMismatch, StreamExhausted, DecapsulationFailure, TagMismatch}
+use Rattle.records.specs.declared.Answer.{Answer}
+use Rattle.records.specs.declared.Answer.the-variants.{Done, Refused}
+
+-- document 01's words beside its numbers
+abbrev pub refusalNumber : Refusal → ℕ
+-- misfit
+refusalNumber WrongLength = 1
+-- stranger
+refusalNumber WrongMark = 2
+-- other issue
+refusalNumber WrongVersion = 3
+-- off the ring
+refusalNumber CoefficientOutOfRange = 4
+-- bad code
+refusalNumber InvalidCode = 5
+-- no unit
+refusalNumber NotInvertible = 6
+-- parted key
+refusalNumber KeyMismatch = 7
+-- dry stream
+refusalNumber StreamExhausted = 8
+-- no triple
+refusalNumber DecapsulationFailure = 9
+-- bad tag
+refusalNumber TagMismatch = 10
+
+abbrev pub number : Answer → ℕ
+number Done = 0
+number (Refused r) = refusalNumber r
+
+-- a refusal where the test fails, and otherwise what follows
+abbrev pub unless : Bool → Refusal → Answer → Answer
+unless true r a = a
+unless false r a = Refused r
+
+-- a refusal stands, and after Done comes what follows
+abbrev pub andThen : Answer → Answer → Answer
+andThen Done a = a
+andThen (Refused r) a = Refused r
+
+-- what a lent output holds afterwards: the new bytes under Done, and otherwise what it held
+abbrev pub onDone : Answer → List ℕ → List ℕ → List ℕ
+onDone Done new old = new
+onDone (Refused r) new old = old

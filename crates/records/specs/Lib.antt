@@ -1,0 +1,3 @@
+-- Answers, and records as bytes.
+pub mod Answers
+pub mod Records

@@ -1,0 +1,49 @@
+-- The coefficients that four bits give.
+use mathlib.Core.Path.{_≡_, refl, ap}
+use mathlib.Core.List.{List}
+use Prim.Native.Nat.{ℕ, _<_, _≤_}
+use native.Mathlib.Nat.{le-trans}
+use native.Mathlib.Omega.{arith}
+use lib.Dec.{leb, leb→le}
+use lib.IntN.{natAbs}
+use lib.ListN.{getD, take}
+use Rattle.lists.proofs.Finite.{at-each}
+use Rattle.lists.proofs.Tables.{getD-table, table-same}
+use Rattle.algebra.proofs.Numbers.{element-table}
+use Rattle.ring.specs.Ring.{q, n}
+use Rattle.ring.specs.Centred.{residue, Ternary}
+use Rattle.ring.proofs.Centring.{residue-below, centred-residue}
+use Rattle.encoding.proofs.Digits.{digit-take}
+use Rattle.sampling.specs.Noise.{folded, fourBits, noiseCoefficient, nibbleAt, ternaryNoise}
+
+-- ---- the rule of four bits: these two laws are all that is used of it
+
+pub fourBits-small : (t : ℕ) → t < 16 → natAbs (fourBits t) ≤ 1
+unfolding fourBits folded
+fourBits-small t h = leb→le (natAbs (fourBits t)) 1 (at-each 16 (λ k. leb (natAbs (fourBits k)) 1) tt t h)
+
+pub noise-none : noiseCoefficient 0 ≡ 0
+unfolding noiseCoefficient fourBits folded residue
+noise-none = refl
+
+-- ---- ternary polynomials
+
+pub ternaryNoise-entry : (bytes : List ℕ) (k : ℕ) → k < n → getD (ternaryNoise bytes) k 0 ≡ noiseCoefficient (nibbleAt bytes k)
+unfolding ternaryNoise
+ternaryNoise-entry bytes k h = getD-table n _ k 0 h
+
+-- any bytes give a ternary polynomial
+pub ternaryNoise-ternary : (bytes : List ℕ) → Ternary (ternaryNoise bytes)
+unfolding ternaryNoise noiseCoefficient
+ternaryNoise-ternary bytes = (
+  element-table q n _ (λ k. residue-below (fourBits (nibbleAt bytes k))),
+  λ i h.
+      let small : natAbs (fourBits (nibbleAt bytes i)) ≤ 1 = fourBits-small (nibbleAt bytes i) (omega arith) in
+      rw (getD-table n (λ k. residue (fourBits (nibbleAt bytes k))) i 0 h, centred-residue (fourBits (nibbleAt bytes i)) (le-trans small (omega arith))) small,
+)
+
+-- the first 512 bytes are read, and no more
+pub ternaryNoise-take : (bytes : List ℕ) → ternaryNoise (take 512 bytes) ≡ ternaryNoise bytes
+unfolding ternaryNoise
+ternaryNoise-take bytes =
+    table-same n _ _ (λ k h. ap noiseCoefficient (digit-take 16 2 bytes 512 k (omega arith)))

@@ -1,0 +1,71 @@
+// Polynomials from random bytes: document 01, "Desk key". Both functions take bytes of any length.
+ghost use mathlib.Core.Path.{_≡_};
+ghost use Prim.Native.Nat.{_%_};
+ghost use lib.ListN.{length};
+ghost use Rattle.sampling.specs.Noise.{noiseCoefficient, ternaryNoise};
+ghost use Rattle.sampling.specs.Stream.{taken, uniformElement};
+
+// ---- noise
+
+// The coefficient of the four lowest bits, by arithmetic alone, since they are secret. Modulo 3 folding changes nothing, and minus a
+// bit is twice the bit; a remainder of 0, 1 or 2 is the code of the coefficient.
+fn noise(t: u8) -> u16
+    ensures { λ r. ⌜ r ≡ noiseCoefficient (t % 16) ⌝ }
+{
+    let t0 = t % 2;
+    let t1 = t / 2 % 2;
+    let t2 = t / 4 % 2;
+    let t3 = t / 8 % 2;
+    encoding::coefficient((t0 + t1 + 2 * t2 + 2 * t3) % 3)
+}
+
+// The ternary polynomial of the first 512 bytes, two coefficients a byte. Missing bytes count as zeros.
+pub fn ternary(bytes: &[u8]) -> [u16; 1024]
+    ensures { λ r. ⌜ r ≡ ternaryNoise (now (bytes .entry)) ⌝ }
+{
+    let mut t = [0u16; 1024];
+    let count = encoding::lesser(bytes.len(), 512);
+    for i in 0..count {
+        let b = bytes[i];
+        t[2 * i] = noise(b % 16);
+        t[2 * i + 1] = noise(b / 16);
+    }
+    t
+}
+
+// ---- the uniform element
+
+// How many words of a stream were taken, and the polynomial whose first coefficients they are; the rest are zeros.
+// The stream was exhausted where the count is below 1,024.
+pub struct UniformSample {
+    pub count: usize,
+    pub value: [u16; 1024],
+}
+
+// Reads 16 blocks of 84 words, up to the word that completes the polynomial or to the last whole word of a shorter stream.
+pub fn uniform(stream: &[u8]) -> UniformSample
+    ensures { λ r. ⌜ (r .count ≡ length (taken (now (stream .entry)))) × (r .value ≡ uniformElement (now (stream .entry))) ⌝ }
+{
+    let mut value = [0u16; 1024];
+    let mut count: usize = 0;
+    'blocks: for k in 0..16 {
+        for j in 0..84 {
+            let at = 2 * (84 * k + j);
+            if at + 1 >= stream.len() {
+                break 'blocks;
+            }
+            let w = encoding::word(stream[at], stream[at + 1]);
+            if w < 59393 {
+                value[count] = w;
+                count += 1;
+                if count == 1024 {
+                    break 'blocks;
+                }
+            }
+        }
+    }
+    UniformSample {
+        count: count,
+        value: value,
+    }
+}

@@ -1,0 +1,54 @@
+use mathlib.Core.Path.{sym, ap, _∙_}
+use Rattle.lists.proofs.Zeros.{size-zeros}
+use Rattle.encoding.specs.Words.{elementBytes}
+use Rattle.encoding.proofs.Words.{length-elementBytes}
+use Rattle.encoding.proofs.Buffers.{put-exact}
+use borrow.Author.Needs.{needs}
+use Rattle.sampling_vectors.proofs.element_agrees.Statement.{statement}
+use Rattle.sampling_vectors.proofs.element_agrees.Tie as tie
+
+uniform-requires : tie.Need-uniform-requires
+uniform-requires c κs = search needs
+
+slice-aggregate-encode-element : tie.Need-slice-aggregate-encode-element
+slice-aggregate-encode-element c = search needs
+
+encode-element-requires : tie.Need-encode-element-requires
+encode-element-requires c κs = search needs
+
+slice-aggregate-same : tie.Need-slice-aggregate-same
+slice-aggregate-same c = search needs
+
+sub-same : tie.Need-sub-same
+sub-same c = search needs
+
+part-same-start : tie.Need-part-same-start
+part-same-start c = search needs
+
+part-same-end : tie.Need-part-same-end
+part-same-end c = search needs
+
+same-requires : tie.Need-same-requires
+same-requires c κs = search needs
+
+returns : tie.Need-returns
+returns c =
+    let written = c .before .before .before .before .encode-element .ensures in
+    let drawn = c .before .before .before .before .before .before .before .uniform .ensures .1 in
+    let bytes = written ∙ put-exact _ _ (length-elementBytes _ ∙ size-zeros 2048) ∙ ap elementBytes drawn in
+    let (agrees, differs) = c .same .ensures in
+    ((λ e. sym bytes ∙ agrees e), (λ e. differs (bytes ∙ e)))
+
+pub element-agrees-spec : {M : Type 1} → statement M
+element-agrees-spec =
+    tie.close
+    (tie.spec
+    uniform-requires
+    slice-aggregate-encode-element
+    encode-element-requires
+    slice-aggregate-same
+    sub-same
+    part-same-start
+    part-same-end
+    same-requires
+    returns)

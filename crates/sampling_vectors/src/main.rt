@@ -1,0 +1,265 @@
+// Works through samples with known results. It prints the coefficient of each four bits, how many of two words are taken, and on how
+// many of the cases of key making on standard input the samples agree with the keys.
+// A case has nine fields: the stream, the noise of s and of e, the lengths of both keys, the number, an empty field, and both keys.
+ghost use mathlib.Core.Path.{_≡_};
+ghost use mathlib.Core.List.{[], _∷_};
+ghost use Prim.Native.Nat.{_%_, _-_, _≤_, _<_};
+ghost use lib.ListN.{length};
+ghost use Rattle.sampling.specs.Noise.{noiseCoefficient};
+ghost use Rattle.sampling.specs.Stream.{taken};
+ghost use Rattle.sampling_vectors.specs.Fields.{wordOf, fieldOf, behindField, behind, fieldAt};
+ghost use Rattle.sampling_vectors.specs.Cases.{Tells, ElementAgrees, NoiseAgrees, KeysAgree, CaseAgrees, Fitting, Judged};
+use libc::STDIN_FILENO;
+use libc::STDOUT_FILENO;
+
+// ---- fields
+
+fn join(b0: u8, b1: u8, b2: u8, b3: u8) -> u32
+    ensures { λ r. ⌜ r ≡ wordOf (b0 ∷ b1 ∷ b2 ∷ b3 ∷ []) ⌝ }
+{
+    b0 as u32 + 256 * (b1 as u32) + 65536 * (b2 as u32) + 16777216 * (b3 as u32)
+}
+
+fn word(text: &[u8]) -> u32
+    ensures { λ r. ⌜ r ≡ wordOf (now (text .entry)) ⌝ }
+{
+    let b0 = encoding::byte_at(text, 0);
+    let b1 = encoding::byte_at(text, 1);
+    let b2 = encoding::byte_at(text, 2);
+    let b3 = encoding::byte_at(text, 3);
+    join(b0, b1, b2, b3)
+}
+
+// The bytes of the first field, as far as they are there.
+fn field(text: &[u8]) -> &[u8]
+    ensures { λ r. ⌜ now r ≡ fieldOf (now (text .entry)) ⌝ }
+{
+    let start = encoding::lesser(4, text.len());
+    let end = encoding::lesser(4 + word(text) as usize, text.len());
+    &text[start..end]
+}
+
+fn behind_field(text: &[u8]) -> &[u8]
+    ensures { λ r. ⌜ now r ≡ behindField (now (text .entry)) ⌝ }
+{
+    let end = encoding::lesser(4 + word(text) as usize, text.len());
+    &text[end..]
+}
+
+// What stands behind k fields.
+fn behind(text: &[u8], k: usize) -> &[u8]
+    ensures { λ r. ⌜ now r ≡ behind k (now (text .entry)) ⌝ }
+{
+    if k == 0 {
+        return text;
+    }
+    behind(behind_field(text), k - 1)
+}
+
+// Field k, counted from 0.
+fn field_at(text: &[u8], k: usize) -> &[u8]
+    ensures { λ r. ⌜ now r ≡ fieldAt k (now (text .entry)) ⌝ }
+{
+    field(behind(text, k))
+}
+
+// ---- a case
+
+fn element_agrees(stream: &[u8], public: &[u8]) -> bool
+    requires { ⌜ length (now public) ≡ 4101 ⌝ }
+    ensures { λ r. ⌜ Tells r (ElementAgrees (now (stream .entry)) (now (public .entry))) ⌝ }
+{
+    let sample = sampling::uniform(stream);
+    let a = sample.value;
+    let mut bytes = [0u8; 2048];
+    encoding::encode_element(a, &mut bytes);
+    check::same(&bytes, &public[5..2053])
+}
+
+fn noise_agrees(noise: &[u8], secret: &[u8]) -> bool
+    requires { ⌜ length (now secret) ≡ 4357 ⌝ }
+    ensures { λ r. ⌜ Tells r (NoiseAgrees (now (noise .entry)) (now (secret .entry))) ⌝ }
+{
+    let s = sampling::ternary(noise);
+    let mut bytes = [0u8; 256];
+    encoding::encode_ternary(s, &mut bytes);
+    check::same(&bytes, &secret[4101..4357])
+}
+
+// Whether both keys are there whole, and the samples are theirs.
+fn keys_agree(stream: &[u8], noise: &[u8], public: &[u8], secret: &[u8]) -> bool
+    ensures { λ r. ⌜ Tells r (KeysAgree (now (stream .entry)) (now (noise .entry)) (now (public .entry)) (now (secret .entry))) ⌝ }
+{
+    if public.len() != 4101 {
+        return false;
+    }
+    if secret.len() != 4357 {
+        return false;
+    }
+    if !element_agrees(stream, public) {
+        return false;
+    }
+    noise_agrees(noise, secret)
+}
+
+// How many words of a stream are taken.
+fn count(stream: &[u8]) -> usize
+    ensures { λ r. ⌜ r ≡ length (taken (now (stream .entry))) ⌝ }
+{
+    let sample = sampling::uniform(stream);
+    sample.count
+}
+
+fn agrees(number: u32, stream: &[u8], noise: &[u8], public: &[u8], secret: &[u8]) -> bool
+    ensures { λ r. ⌜ Tells r (CaseAgrees number (now (stream .entry)) (now (noise .entry)) (now (public .entry)) (now (secret .entry))) ⌝ }
+{
+    match number {
+        0 => keys_agree(stream, noise, public, secret),
+        6 => count(stream) == 1024,
+        8 => count(stream) < 1024,
+        _ => false,
+    }
+}
+
+fn fitting(stream: &[u8], noise: &[u8]) -> bool
+    ensures { λ r. ⌜ Tells r (Fitting (now (stream .entry)) (now (noise .entry))) ⌝ }
+{
+    if stream.len() != 2688 {
+        return false;
+    }
+    noise.len() == 512
+}
+
+enum Verdict {
+    Agreed,
+    Differed,
+    // Key making refuses a buffer of another length, which is no matter of sampling.
+    PassedOver,
+}
+
+// Judges the first case of the text.
+fn judge(text: &[u8]) -> Verdict
+    ensures { λ r. ⌜ Judged (now (text .entry)) r ⌝ }
+{
+    let stream = field_at(text, 0);
+    let noise = field_at(text, 1);
+    if !fitting(stream, noise) {
+        return Verdict::PassedOver;
+    }
+    let number = word(field_at(text, 5));
+    let public = field_at(text, 7);
+    let secret = field_at(text, 8);
+    if agrees(number, stream, noise, public, secret) {
+        Verdict::Agreed
+    } else {
+        Verdict::Differed
+    }
+}
+
+// How many bytes stand behind the first case.
+fn left_behind(text: &[u8]) -> usize
+    ensures { λ r. ⌜ r ≤ length (now (text .entry)) - 1 ⌝ }
+{
+    behind(text, 9).len()
+}
+
+struct Counts {
+    agreed: usize,
+    differed: usize,
+    passed_over: usize,
+}
+
+fn judge_cases(text: &[u8]) -> Counts {
+    let mut left = text.len();
+    let mut agreed = 0;
+    let mut differed = 0;
+    let mut passed_over = 0;
+    while left > 0 {
+        let at = text.len() - left;
+        let rest = &text[at..];
+        match judge(rest) {
+            Verdict::Agreed => {
+                agreed += 1;
+            }
+            Verdict::Differed => {
+                differed += 1;
+            }
+            Verdict::PassedOver => {
+                passed_over += 1;
+            }
+        }
+        left = left_behind(rest);
+    }
+    Counts {
+        agreed: agreed,
+        differed: differed,
+        passed_over: passed_over,
+    }
+}
+
+// ---- what is printed
+
+fn print_count(count: usize, what: &[u8]) {
+    io::print_decimal(STDOUT_FILENO, count as u64);
+    io::write_all(STDOUT_FILENO, what);
+}
+
+fn print_counts(c: Counts) {
+    io::write_all(STDOUT_FILENO, b"keys: ");
+    print_count(c.agreed, b" agreed, ");
+    print_count(c.differed, b" differed, ");
+    print_count(c.passed_over, b" with other lengths\n");
+}
+
+// The coefficient of four bits, as the polynomial of one byte begins with it.
+fn coefficient(t: u8) -> u16
+    requires { ⌜ t < 16 ⌝ }
+    ensures { λ r. ⌜ r ≡ noiseCoefficient t ⌝ }
+{
+    let b = [t];
+    let p = sampling::ternary(&b);
+    p[0]
+}
+
+fn print_coefficient(t: u8) {
+    io::write_all(STDOUT_FILENO, b"four bits ");
+    io::print_decimal(STDOUT_FILENO, (t % 16) as u64);
+    let c = coefficient(t % 16);
+    if c == 59392 {
+        io::write_all(STDOUT_FILENO, b": -1\n");
+    } else {
+        io::write_all(STDOUT_FILENO, b": ");
+        print_count(c as usize, b"\n");
+    }
+}
+
+fn print_coefficients() {
+    for t in 0..16 {
+        print_coefficient(t);
+    }
+}
+
+// How many words are taken of a stream of one word.
+fn print_taken(low: u8, high: u8) {
+    let stream = [low, high];
+    io::write_all(STDOUT_FILENO, b"word ");
+    io::print_decimal(STDOUT_FILENO, encoding::word(low, high) as u64);
+    io::write_all(STDOUT_FILENO, b": ");
+    print_count(count(&stream), b" taken\n");
+}
+
+// 1 MiB of zeros, which hold the cases.
+fn input_buffer() -> [u8; 1048576]
+    ensures { λ r. ⌜ 1048576 ≡ length r ⌝ }
+{
+    [0; 1048576]
+}
+
+fn main() {
+    print_coefficients();
+    print_taken(0, 232);
+    print_taken(1, 232);
+    let mut input = input_buffer();
+    let n = io::read_full(STDIN_FILENO, &mut input);
+    print_counts(judge_cases(&input[..n]));
+}

@@ -1,0 +1,77 @@
+use mathlib.Core.Path.{_≡_, ap, ap₂, _∙_}
+use mathlib.Core.Bool.{not}
+use mathlib.Core.List.{List}
+use Prim.Native.Nat.{ℕ}
+use lib.ListN.{length}
+use borrow.Author.Needs.{needs}
+use Rattle.exactness.specs.Scheme as Any
+use Rattle.ntt.specs.Spectrum.{coefficientsOf}
+use Rattle.ring.specs.Ring.{fifth, multiple, difference, product}
+use Rattle.ring.specs.Centred.{within?}
+use Rattle.ring.specs.Reciprocals.{hasZero, reciprocalsOf}
+use Rattle.ring.proofs.Transforms.{zero-decides, inverse-spectrum}
+use Rattle.scheme.specs.Scheme.{keyNoise}
+use Rattle.scheme.specs.Answers.{verdict}
+use Rattle.scheme.proofs.Steps.{noise-through}
+use Rattle.scheme.proofs.secret_key.Statement.{statement}
+use Rattle.scheme.proofs.secret_key.Tie as tie
+
+forward-requires : tie.Need-forward-requires
+forward-requires c κs = search needs
+
+forward-requires-2 : tie.Need-forward-requires-2
+forward-requires-2 c κs = search needs
+
+forward-requires-3 : tie.Need-forward-requires-3
+forward-requires-3 c κs = search needs
+
+has-zero-requires : tie.Need-has-zero-requires
+has-zero-requires c κs = search needs
+
+key-noise-requires : tie.Need-key-noise-requires
+key-noise-requires c κs = search needs
+
+is-within-requires : tie.Need-is-within-requires
+is-within-requires c κs = search needs
+
+reciprocals-requires : tie.Need-reciprocals-requires
+reciprocals-requires c κs = search needs
+
+verdict-requires : tie.Need-verdict-requires
+verdict-requires c κs = search needs
+
+returns : tie.Need-returns
+returns c =
+    let tested = c .before .before in
+    let spectra = tested .before .before .before in
+    let start = spectra .before .before .before .before .before in
+    let args = start .args in
+    let ha : length (args .a) ≡ 1024 = search (needs, start .good .0) in
+    let hb : length (args .b) ≡ 1024 = search (needs, start .good .1 .0) in
+    let hs : length (args .s) ≡ 1024 = search (needs, start .good .1 .1 .0) in
+    let a = spectra .before .before .forward .ensures in
+    let b = spectra .before .forward2 .ensures in
+    let s = spectra .forward3 .ensures in
+    let invertible = ap not (tested .before .before .has-zero .ensures ∙ ap hasZero b) ∙ zero-decides (args .b) hb in
+    let noise = tested .before .key-noise .ensures
+    ∙ ap₂ (λ (x y : List ℕ). keyNoise (coefficientsOf x) (args .b) (coefficientsOf y)) a s ∙ noise-through (args .a) (args .b) (args .s) ha hs in (
+      (a, b, s),
+      (
+        c .before .reciprocals .ensures ∙ ap reciprocalsOf b ∙ inverse-spectrum (args .b) hb,
+        c .verdict .ensures ∙ ap₂ verdict invertible (tested .is-within .ensures ∙ ap (within? 1) noise),
+      ),
+    )
+
+pub secret-key-spec : {M : Type 1} → statement M
+secret-key-spec =
+    tie.close
+    (tie.spec
+    forward-requires
+    forward-requires-2
+    forward-requires-3
+    has-zero-requires
+    key-noise-requires
+    is-within-requires
+    reciprocals-requires
+    verdict-requires
+    returns)

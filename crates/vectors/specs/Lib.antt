@@ -1,0 +1,3 @@
+-- What the contracts of `vectors` cite.
+pub mod Fields
+pub mod Answers

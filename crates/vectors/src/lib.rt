@@ -1,0 +1,199 @@
+// What programs over files of test vectors share: the fields of a file, the verdict on a case, reading a file whole, and its line of report.
+ghost use mathlib.Core.Path.{_≡_};
+ghost use Prim.Native.Nat.{_+_, _*_, _≤_, min};
+ghost use lib.ListN.{length, getD, replicate};
+ghost use Rattle.vectors.specs.Fields.{word32, endFrom, start, field, hasField};
+ghost use Rattle.vectors.specs.Answers.{Tells, Within};
+use libc::STDOUT_FILENO;
+
+// ---- fields
+
+fn lesser(a: usize, b: usize) -> usize
+    ensures { λ r. ⌜ r ≡ min a b ⌝ }
+{
+    if a < b { a } else { b }
+}
+
+fn byte(text: &[u8], i: usize) -> u8
+    ensures { λ r. ⌜ r ≡ getD (now (text .entry)) i 0 ⌝ }
+{
+    if i < text.len() { text[i] } else { 0 }
+}
+
+fn join4(b0: u8, b1: u8, b2: u8, b3: u8) -> u32
+    ensures { λ r. ⌜ r ≡ b0 + 256 * b1 + 65536 * b2 + 16777216 * b3 ⌝ }
+{
+    b0 as u32 + 256 * (b1 as u32) + 65536 * (b2 as u32) + 16777216 * (b3 as u32)
+}
+
+// The word that a text starts with; of the bytes of a field, the number that it holds.
+pub fn word(text: &[u8]) -> u32
+    ensures { λ r. ⌜ r ≡ word32 (now (text .entry)) ⌝ }
+{
+    join4(byte(text, 0), byte(text, 1), byte(text, 2), byte(text, 3))
+}
+
+// Where the field that starts at a place ends, by its length.
+fn end_from(text: &[u8], at: usize) -> usize
+    requires { ⌜ at ≤ length (now text) ⌝ }
+    ensures { λ r. ⌜ r ≡ endFrom at (now (text .entry)) ⌝ }
+{
+    at + 4 + word(&text[at..]) as usize
+}
+
+// Where field i starts: the bytes of the fields before it.
+pub fn start(text: &[u8], i: usize) -> usize
+    ensures { λ r. ⌜ (r ≡ start i (now (text .entry))) × (r ≤ length (now (text .entry))) ⌝ }
+{
+    let mut at = 0;
+    for k in 0..i {
+        at = lesser(end_from(text, at), text.len());
+    }
+    at
+}
+
+// The bytes of field i.
+pub fn field(text: &[u8], i: usize) -> &[u8]
+    ensures { λ r. ⌜ now r ≡ field i (now (text .entry)) ⌝ }
+{
+    let at = start(text, i);
+    let first = lesser(at + 4, text.len());
+    let end = lesser(end_from(text, at), text.len());
+    &text[first..end]
+}
+
+// Whether the text starts with fields 0 to i.
+pub fn has_field(text: &[u8], i: usize) -> bool
+    ensures { λ r. ⌜ r ≡ hasField i (now (text .entry)) ⌝ }
+{
+    end_from(text, start(text, i)) <= text.len()
+}
+
+pub fn same(a: &[u8], b: &[u8]) -> bool
+    ensures { λ r. ⌜ Tells r (now (a .entry) ≡ now (b .entry)) ⌝ }
+{
+    if a.len() != b.len() {
+        return false;
+    }
+    for k in 0..a.len() {
+        if a[k] != b[k] {
+            return false;
+        }
+    }
+    true
+}
+
+// ---- output buffers: filled before a call, so that a case that is refused shows that nothing was written
+
+pub fn fill(buffer: &mut [u8], value: u8)
+    ensures { λ _. ⌜ now (buffer .exit) ≡ replicate (length (now (buffer .entry))) value ⌝ }
+{
+    for i in 0..buffer.len() {
+        buffer[i] = value;
+    }
+}
+
+pub fn is_filled(buffer: &[u8], value: u8) -> bool
+    ensures { λ r. ⌜ Tells r (now (buffer .entry) ≡ replicate (length (now (buffer .entry))) value) ⌝ }
+{
+    for k in 0..buffer.len() {
+        if buffer[k] != value {
+            return false;
+        }
+    }
+    true
+}
+
+// ---- cases
+
+// The verdict on a case.
+pub enum Verdict {
+    Agreed,
+    Differed,
+    Malformed,
+}
+
+// ---- files
+
+// 2 MiB of zeros, which hold a file whole.
+pub fn file_buffer() -> [u8; 2097152]
+    ensures { λ r. ⌜ 2097152 ≡ length r ⌝ }
+{
+    [0; 2097152]
+}
+
+// What became of reading a file: so many bytes, or why none.
+pub enum Contents {
+    Bytes(usize),
+    TooLong,
+    Missing,
+}
+
+// Reads what is left of a file. One more read tells whether the file goes on, or cannot be read.
+fn read_open(fd: i32, buffer: &mut [u8]) -> Contents
+    ensures { λ r. ⌜ Within r (now (buffer .exit)) ⌝ }
+{
+    let n = io::read_full(fd, buffer);
+    let mut more = [0u8; 1];
+    let got = libc::read(fd, &mut more);
+    if got < 0 {
+        return Contents::Missing;
+    }
+    if got > 0 {
+        return Contents::TooLong;
+    }
+    Contents::Bytes(n)
+}
+
+// Reads a whole file into the front of a buffer.
+pub fn read_file(name: &[u8], buffer: &mut [u8]) -> Contents
+    ensures { λ r. ⌜ Within r (now (buffer .exit)) ⌝ }
+{
+    let fd = os::open_read(name);
+    if fd < 0 {
+        return Contents::Missing;
+    }
+    let r = read_open(fd, buffer);
+    libc::close(fd);
+    r
+}
+
+// ---- reports
+
+// What is said of a file: how many cases agreed and how many differed, or what is wrong with it.
+pub enum Report {
+    Counts(u64, u64),
+    // At which byte a case starts that is not whole or not of its kind.
+    Malformed(usize),
+    TooLong,
+    Missing,
+}
+
+fn print_counts(agreed: u64, differed: u64) {
+    io::print_decimal(STDOUT_FILENO, agreed);
+    io::write_all(STDOUT_FILENO, b" agreed, ");
+    io::print_decimal(STDOUT_FILENO, differed);
+    io::write_all(STDOUT_FILENO, b" differed\n");
+}
+
+fn print_malformed(at: usize) {
+    io::write_all(STDOUT_FILENO, b"malformed at byte ");
+    io::print_decimal(STDOUT_FILENO, at as u64);
+    io::write_all(STDOUT_FILENO, b"\n");
+}
+
+// Prints the line of a file.
+pub fn print_report(name: &[u8], r: Report) {
+    io::write_all(STDOUT_FILENO, name);
+    io::write_all(STDOUT_FILENO, b": ");
+    match r {
+        Report::Counts(agreed, differed) => print_counts(agreed, differed),
+        Report::Malformed(at) => print_malformed(at),
+        Report::TooLong => {
+            io::write_all(STDOUT_FILENO, b"too long\n");
+        }
+        Report::Missing => {
+            io::write_all(STDOUT_FILENO, b"missing\n");
+        }
+    }
+}

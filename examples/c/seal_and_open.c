@@ -1,0 +1,91 @@
+/* Makes a key pair from the system's random bytes, seals an entry, opens it, and shows that a changed tag is refused. */
+#include <stdio.h>
+#include <stdlib.h>
+#include <string.h>
+#include <sys/random.h>
+
+#include "polka.h"
+
+/* getrandom may answer a long request in parts. Without random bytes there is nothing to do. */
+static void fill(uint8_t *bytes, size_t length) {
+    while (length > 0) {
+        ssize_t got = getrandom(bytes, length, 0);
+        if (got <= 0) {
+            perror("getrandom");
+            exit(1);
+        }
+        bytes += got;
+        length -= (size_t)got;
+    }
+}
+
+static uint32_t make_key(uint8_t public_key[POLKA_PUBLIC_KEY_LENGTH], uint8_t secret_key[POLKA_SECRET_KEY_LENGTH]) {
+    uint8_t stream[POLKA_UNIFORM_STREAM_LENGTH], noise_s[POLKA_KEY_NOISE_LENGTH], noise_e[POLKA_KEY_NOISE_LENGTH];
+    uint32_t answer;
+    do {
+        fill(stream, sizeof stream);
+        fill(noise_s, sizeof noise_s);
+        fill(noise_e, sizeof noise_e);
+        answer = polka_keygen(stream, sizeof stream, noise_s, sizeof noise_s, noise_e, sizeof noise_e, public_key,
+                              POLKA_PUBLIC_KEY_LENGTH, secret_key, POLKA_SECRET_KEY_LENGTH);
+        printf("key generation: %u\n", (unsigned)answer);
+        /* about one b in sixty is no unit, and a stream may run dry: both call for new bytes */
+    } while (answer == POLKA_NOT_INVERTIBLE || answer == POLKA_STREAM_EXHAUSTED);
+    explicit_bzero(noise_s, sizeof noise_s);
+    explicit_bzero(noise_e, sizeof noise_e);
+    return answer;
+}
+
+static uint32_t seal(const uint8_t public_key[POLKA_PUBLIC_KEY_LENGTH], const uint8_t entry[POLKA_ENTRY_LENGTH],
+                     uint8_t sealed[POLKA_SEALED_ENTRY_LENGTH]) {
+    uint8_t noise[POLKA_TRIPLE_NOISE_LENGTH];
+    fill(noise, sizeof noise);
+    uint32_t answer = polka_seal(public_key, POLKA_PUBLIC_KEY_LENGTH, noise, sizeof noise, entry, POLKA_ENTRY_LENGTH, sealed,
+                                 POLKA_SEALED_ENTRY_LENGTH);
+    explicit_bzero(noise, sizeof noise);
+    return answer;
+}
+
+static uint32_t open_sealed(const uint8_t secret_key[POLKA_SECRET_KEY_LENGTH], const uint8_t sealed[POLKA_SEALED_ENTRY_LENGTH],
+                            uint8_t entry[POLKA_ENTRY_LENGTH]) {
+    uint8_t dummy[POLKA_TRIPLE_NOISE_LENGTH];
+    fill(dummy, sizeof dummy);
+    uint32_t answer = polka_open(secret_key, POLKA_SECRET_KEY_LENGTH, sealed, POLKA_SEALED_ENTRY_LENGTH, dummy, sizeof dummy, entry,
+                                 POLKA_ENTRY_LENGTH);
+    explicit_bzero(dummy, sizeof dummy);
+    return answer;
+}
+
+int main(void) {
+    static uint8_t public_key[POLKA_PUBLIC_KEY_LENGTH], secret_key[POLKA_SECRET_KEY_LENGTH];
+    static uint8_t sealed[POLKA_SEALED_ENTRY_LENGTH];
+    const uint8_t entry[POLKA_ENTRY_LENGTH + 1] = "lane 4, 00:47.52";
+    uint8_t opened[POLKA_ENTRY_LENGTH] = {0};
+
+    if (make_key(public_key, secret_key) != POLKA_DONE) {
+        return 1;
+    }
+    uint32_t answer = polka_check_secret_key(secret_key, sizeof secret_key);
+    printf("key check: %u\n", (unsigned)answer);
+    if (answer != POLKA_DONE) {
+        return 1;
+    }
+
+    answer = seal(public_key, entry, sealed);
+    printf("seal \"%s\": %u\n", (const char *)entry, (unsigned)answer);
+    if (answer != POLKA_DONE) {
+        return 1;
+    }
+
+    answer = open_sealed(secret_key, sealed, opened);
+    printf("open: %u \"%.*s\"\n", (unsigned)answer, POLKA_ENTRY_LENGTH, (const char *)opened);
+    if (answer != POLKA_DONE || memcmp(entry, opened, POLKA_ENTRY_LENGTH) != 0) {
+        return 1;
+    }
+
+    sealed[POLKA_SEALED_ENTRY_LENGTH - 1] ^= 1;
+    memset(opened, '.', sizeof opened);
+    answer = open_sealed(secret_key, sealed, opened);
+    printf("open with a changed tag: %u \"%.*s\"\n", (unsigned)answer, POLKA_ENTRY_LENGTH, (const char *)opened);
+    return answer == POLKA_TAG_MISMATCH ? 0 : 1;
+}

@@ -1,0 +1,99 @@
+/* POLKA at 1,024 coefficients with SHAKE256: the calls of the proved library libpolka.a.
+ *
+ * A desk makes a key pair (polka_keygen); a console seals 16-byte entries under the public key (polka_seal); the desk opens them
+ * (polka_open). polka_encapsulate and polka_decapsulate are the scheme without an entry.
+ *
+ * For all calls:
+ * - A buffer is a pointer and its length in bytes. The pointer is not null, also where the length is 0.
+ * - Every call looks at all lengths first, and refuses another length than the one named here.
+ * - An output may overlap no other buffer of the call, input or output. Inputs may overlap each other.
+ * - The answer is one of enum polka_answer. Under any answer but POLKA_DONE every output byte is as it was before the call.
+ * - Under POLKA_DONE every byte of every output is written.
+ * - The library keeps no state: calls may run at the same time on several threads.
+ * - It draws no random bytes: streams and noise come from the caller. They must be uniform and new for every call, and noise is secret.
+ * - The caller overwrites secrets that are no longer needed.
+ */
+#ifndef POLKA_H
+#define POLKA_H
+
+#include <stddef.h>
+#include <stdint.h>
+
+#ifdef __cplusplus
+extern "C" {
+#endif
+
+/* Lengths in bytes. Document 01's word is in brackets where it is another. */
+#define POLKA_PUBLIC_KEY_LENGTH 4101     /* "PDK", version, a, b */
+#define POLKA_SECRET_KEY_LENGTH 4357     /* "SDK", version, a, b, s (desk key) */
+#define POLKA_SEALED_ENTRY_LENGTH 4133   /* "PLG", version, c1, c2, body, tag */
+#define POLKA_ENCAPSULATION_LENGTH 4096  /* c1, c2 (bare capsule) */
+#define POLKA_TRIPLE_LENGTH 768          /* r, e1, e2, two bits a coefficient */
+#define POLKA_ENTRY_LENGTH 16            /* what is sealed */
+#define POLKA_UNIFORM_STREAM_LENGTH 2688 /* random bytes for a (lent stream) */
+#define POLKA_KEY_NOISE_LENGTH 512       /* random bytes for s, or for e */
+#define POLKA_TRIPLE_NOISE_LENGTH 1536   /* random bytes for a triple: of a sealing, or the dummy of an opening */
+
+/* What the calls answer, with document 01's word. */
+enum polka_answer {
+    POLKA_DONE = 0,
+    POLKA_WRONG_LENGTH = 1,             /* misfit: a buffer, input or output, hasn't its exact length */
+    POLKA_WRONG_MARK = 2,               /* stranger: the mark is another */
+    POLKA_WRONG_VERSION = 3,            /* other issue: the version is not 1 */
+    POLKA_COEFFICIENT_OUT_OF_RANGE = 4, /* off the ring: a word is 59,393 or more */
+    POLKA_INVALID_CODE = 5,             /* bad code: a two-bit code is 3 */
+    POLKA_NOT_INVERTIBLE = 6,           /* no unit: b has no inverse */
+    POLKA_KEY_MISMATCH = 7,             /* parted key: b / 5 - a s is not ternary (short) */
+    POLKA_STREAM_EXHAUSTED = 8,         /* dry stream: under 1,024 words of the stream are below 59,393 */
+    POLKA_DECAPSULATION_FAILURE = 9,    /* no triple: a step of the opening fails */
+    POLKA_TAG_MISMATCH = 10             /* bad tag: the tag is not that of the body */
+};
+
+/* Makes a key pair. It tries once: under 6 (about one try in sixty) and 8 try again with new bytes.
+ * Answers 0; 1, 8, 6, in this order. */
+uint32_t polka_keygen(const uint8_t *stream, size_t stream_length,    /* POLKA_UNIFORM_STREAM_LENGTH */
+                      const uint8_t *noise_s, size_t noise_s_length,  /* POLKA_KEY_NOISE_LENGTH */
+                      const uint8_t *noise_e, size_t noise_e_length,  /* POLKA_KEY_NOISE_LENGTH */
+                      uint8_t *public_key, size_t public_key_length,  /* POLKA_PUBLIC_KEY_LENGTH, written */
+                      uint8_t *secret_key, size_t secret_key_length); /* POLKA_SECRET_KEY_LENGTH, written */
+
+/* Whether a secret key is sound. Both openings make this check themselves.
+ * Answers 0; 1, 2, 3, 4, 5, 6, 7. */
+uint32_t polka_check_secret_key(const uint8_t *secret_key, size_t secret_key_length); /* POLKA_SECRET_KEY_LENGTH */
+
+/* The encapsulation of a triple (capsule making).
+ * Answers 0; 1; for the key 2, 3, 4, 6; for the triple 5. */
+uint32_t polka_encapsulate(const uint8_t *public_key, size_t public_key_length,  /* POLKA_PUBLIC_KEY_LENGTH */
+                           const uint8_t *triple, size_t triple_length,          /* POLKA_TRIPLE_LENGTH */
+                           uint8_t *encapsulation, size_t encapsulation_length); /* POLKA_ENCAPSULATION_LENGTH, written */
+
+/* The triple of an encapsulation (bare opening). The dummy has no part in the answer.
+ * Answers 0; 1; for the key 2, 3, 4, 5, 6, 7; for the encapsulation 4; for the dummy 5; 9. */
+uint32_t polka_decapsulate(const uint8_t *secret_key, size_t secret_key_length,       /* POLKA_SECRET_KEY_LENGTH */
+                           const uint8_t *encapsulation, size_t encapsulation_length, /* POLKA_ENCAPSULATION_LENGTH */
+                           const uint8_t *dummy, size_t dummy_length,                 /* POLKA_TRIPLE_LENGTH */
+                           uint8_t *triple, size_t triple_length);                    /* POLKA_TRIPLE_LENGTH, written */
+
+/* Seals an entry. The noise is the whole secret of this one sealing.
+ * Answers 0; 1; for the key 2, 3, 4, 6. */
+uint32_t polka_seal(const uint8_t *public_key, size_t public_key_length, /* POLKA_PUBLIC_KEY_LENGTH */
+                    const uint8_t *noise, size_t noise_length,           /* POLKA_TRIPLE_NOISE_LENGTH */
+                    const uint8_t *entry, size_t entry_length,           /* POLKA_ENTRY_LENGTH */
+                    uint8_t *sealed, size_t sealed_length);              /* POLKA_SEALED_ENTRY_LENGTH, written */
+
+/* Opens a sealed entry. The dummy noise has no part in the answer.
+ * Answers 0; 1; for the key 2, 3, 4, 5, 6, 7; for the sealed entry 2, 3, 4; 9; 10. */
+uint32_t polka_open(const uint8_t *secret_key, size_t secret_key_length,   /* POLKA_SECRET_KEY_LENGTH */
+                    const uint8_t *sealed, size_t sealed_length,           /* POLKA_SEALED_ENTRY_LENGTH */
+                    const uint8_t *dummy_noise, size_t dummy_noise_length, /* POLKA_TRIPLE_NOISE_LENGTH */
+                    uint8_t *entry, size_t entry_length);                  /* POLKA_ENTRY_LENGTH, written */
+
+/* The first output_length bytes of SHAKE256 of the input. Both lengths are free; it refuses nothing. */
+void polka_shake256(const uint8_t *input, size_t input_length,
+                    uint8_t *output, size_t output_length);
+
+#ifdef __cplusplus
+}
+#endif
+
+#endif

@@ -1,0 +1,652 @@
+//! The library's algorithms in plain Rust, to be timed beside it: the constant-geometry transform with Montgomery factors in 16-bit words,
+//! many reciprocals for the price of one, no transform twice. The tables of factors are made once a call, as the library makes them.
+
+const Q: u16 = 59_393;
+
+pub type Element = [u16; 1024];
+
+// ---- arithmetic modulo q on words below q
+
+fn add(a: u16, b: u16) -> u16 {
+    let c = Q - b;
+    if c <= a {
+        a - c
+    } else {
+        a.wrapping_add(b)
+    }
+}
+
+fn sub(a: u16, b: u16) -> u16 {
+    if b <= a {
+        a - b
+    } else {
+        a.wrapping_add(Q - b)
+    }
+}
+
+fn high(a: u16, b: u16) -> u16 {
+    ((u32::from(a) * u32::from(b)) >> 16) as u16
+}
+
+fn reduction(w: u16, y: u16) -> u16 {
+    high(w.wrapping_mul(y).wrapping_mul(6145), Q)
+}
+
+/// w y / 2^16 modulo q.
+fn montgomery(w: u16, y: u16) -> u16 {
+    sub(high(w, y), reduction(w, y))
+}
+
+fn to_montgomery(x: u16) -> u16 {
+    montgomery(21_894, x)
+}
+
+fn mul(a: u16, b: u16) -> u16 {
+    (u32::from(a) * u32::from(b) % u32::from(Q)) as u16
+}
+
+fn reciprocal(x: u16) -> u16 {
+    if x <= 1 {
+        return x;
+    }
+    mul(Q - Q / x, reciprocal(Q % x))
+}
+
+// ---- the transform
+
+const fn powers() -> Element {
+    let mut table = [1u16; 1024];
+    let mut i = 1;
+    while i < 1024 {
+        table[i] = (table[i - 1] as u32 * 3 % Q as u32) as u16;
+        i += 1;
+    }
+    table
+}
+
+static POWERS: Element = powers();
+
+pub struct Factors([u16; 5120]);
+
+fn factors(exponent: impl Fn(u16) -> u16) -> Factors {
+    let mut reversed = [0u16; 1024];
+    reversed[1] = 512;
+    for m in 2..1024 {
+        reversed[m] = reversed[m / 2] / 2 + (m % 2) as u16 * 512;
+    }
+    let mut block = [0u16; 1024];
+    for m in 0..1024 {
+        block[m] = to_montgomery(POWERS[usize::from(exponent(reversed[m]) % 1024)]);
+    }
+    let mut all = [0u16; 5120];
+    for (k, layer) in all.chunks_exact_mut(512).enumerate() {
+        let n = 1 << k;
+        for (j, factor) in layer.iter_mut().enumerate() {
+            *factor = block[n + j % n];
+        }
+    }
+    Factors(all)
+}
+
+pub fn forward_factors() -> Factors {
+    factors(|e| e)
+}
+
+pub fn backward_factors() -> Factors {
+    factors(|e| 1024 - e)
+}
+
+fn forward_layer(a: &Element, w: &[u16; 512]) -> Element {
+    let mut r = [0; 1024];
+    for j in 0..512 {
+        let (x, y, f) = (a[j], a[512 + j], w[j]);
+        let (upper, lower) = (high(f, y), reduction(f, y));
+        r[2 * j] = sub(add(x, upper), lower);
+        r[2 * j + 1] = add(sub(x, upper), lower);
+    }
+    r
+}
+
+fn layer(w: &Factors, k: usize) -> &[u16; 512] {
+    w.0[512 * k..512 * k + 512].try_into().unwrap()
+}
+
+pub fn forward(a: &Element, w: &Factors) -> Element {
+    let mut s = a.map(|x| if Q <= x { x - Q } else { x });
+    for k in 0..10 {
+        s = forward_layer(&s, layer(w, k));
+    }
+    s
+}
+
+fn unzipped(a: &Element) -> Element {
+    let mut r = [0; 1024];
+    for j in 0..512 {
+        r[j] = a[2 * j];
+        r[512 + j] = a[2 * j + 1];
+    }
+    r
+}
+
+fn backward_layer(a: &Element, w: &[u16; 512]) -> Element {
+    let p = unzipped(a);
+    let mut r = [0; 1024];
+    for j in 0..512 {
+        let (x, y) = (p[j], p[512 + j]);
+        r[j] = add(x, y);
+        r[512 + j] = montgomery(w[j], sub(y, x));
+    }
+    r
+}
+
+pub fn backward(a: &Element, w: &Factors) -> Element {
+    let mut s = a.map(|x| montgomery(64, x));
+    for k in (0..10).rev() {
+        s = backward_layer(&s, layer(w, k));
+    }
+    s
+}
+
+fn zip(a: &Element, b: &Element, f: impl Fn(u16, u16) -> u16) -> Element {
+    let mut r = [0; 1024];
+    for i in 0..1024 {
+        r[i] = f(a[i], b[i]);
+    }
+    r
+}
+
+pub fn pointwise(a: &Element, b: &Element) -> Element {
+    zip(a, b, |x, y| montgomery(to_montgomery(x), y))
+}
+
+fn sum(a: &Element, b: &Element) -> Element {
+    zip(a, b, add)
+}
+
+fn difference(a: &Element, b: &Element) -> Element {
+    zip(a, b, sub)
+}
+
+/// `factor` is Montgomery's form of the number to multiply by.
+fn multiple(factor: u16, a: &Element) -> Element {
+    a.map(|x| montgomery(factor, x))
+}
+
+fn has_zero(a: &Element) -> bool {
+    a.contains(&0)
+}
+
+/// A heap of products, the reciprocal of its top, and the way back down.
+pub fn reciprocals(t: &Element) -> Element {
+    let mut heap = [0u16; 2048];
+    heap[1024..].copy_from_slice(t);
+    for k in (1..1024).rev() {
+        heap[k] = mul(heap[2 * k], heap[2 * k + 1]);
+    }
+    let mut inverses = [0u16; 2048];
+    inverses[1] = reciprocal(heap[1]);
+    for k in 1..1024 {
+        inverses[2 * k] = mul(inverses[k], heap[2 * k + 1]);
+        inverses[2 * k + 1] = mul(inverses[k], heap[2 * k]);
+    }
+    inverses[1024..].try_into().unwrap()
+}
+
+/// Whether every centred coefficient is between −bound and bound, without leaving early.
+fn within(bound: u16, a: &Element) -> bool {
+    a.iter().fold(true, |all, &x| all & ((x <= bound) | (Q - x <= bound)))
+}
+
+pub fn remainders(m: &Element) -> Element {
+    m.map(|c| {
+        let centred = if c <= 29_696 { i32::from(c) } else { i32::from(c) - i32::from(Q) };
+        let t = centred % 5;
+        let t = if t > 2 {
+            t - 5
+        } else if t < -2 {
+            t + 5
+        } else {
+            t
+        };
+        if t < 0 {
+            (t + i32::from(Q)) as u16
+        } else {
+            t as u16
+        }
+    })
+}
+
+// ---- SHAKE256
+
+const ROUND_CONSTANTS: [u64; 24] = [
+    0x0000_0000_0000_0001,
+    0x0000_0000_0000_8082,
+    0x8000_0000_0000_808a,
+    0x8000_0000_8000_8000,
+    0x0000_0000_0000_808b,
+    0x0000_0000_8000_0001,
+    0x8000_0000_8000_8081,
+    0x8000_0000_0000_8009,
+    0x0000_0000_0000_008a,
+    0x0000_0000_0000_0088,
+    0x0000_0000_8000_8009,
+    0x0000_0000_8000_000a,
+    0x0000_0000_8000_808b,
+    0x8000_0000_0000_008b,
+    0x8000_0000_0000_8089,
+    0x8000_0000_0000_8003,
+    0x8000_0000_0000_8002,
+    0x8000_0000_0000_0080,
+    0x0000_0000_0000_800a,
+    0x8000_0000_8000_000a,
+    0x8000_0000_8000_8081,
+    0x8000_0000_0000_8080,
+    0x0000_0000_8000_0001,
+    0x8000_0000_8000_8008,
+];
+
+/// Rotation of the lane at x + 5 y.
+const ROTATIONS: [u32; 25] = [0, 1, 62, 28, 27, 36, 44, 6, 55, 20, 3, 10, 43, 25, 39, 41, 45, 15, 21, 8, 18, 2, 61, 56, 14];
+
+fn keccak(a: &mut [u64; 25]) {
+    for constant in ROUND_CONSTANTS {
+        let mut c = [0; 5];
+        for x in 0..5 {
+            c[x] = a[x] ^ a[x + 5] ^ a[x + 10] ^ a[x + 15] ^ a[x + 20];
+        }
+        let mut b = [0; 25];
+        for x in 0..5 {
+            let d = c[(x + 4) % 5] ^ c[(x + 1) % 5].rotate_left(1);
+            for y in 0..5 {
+                b[y + 5 * ((2 * x + 3 * y) % 5)] = (a[x + 5 * y] ^ d).rotate_left(ROTATIONS[x + 5 * y]);
+            }
+        }
+        for y in 0..5 {
+            for x in 0..5 {
+                a[x + 5 * y] = b[x + 5 * y] ^ (!b[(x + 1) % 5 + 5 * y] & b[(x + 2) % 5 + 5 * y]);
+            }
+        }
+        a[0] ^= constant;
+    }
+}
+
+fn absorb(state: &mut [u64; 25], block: &[u8; 136]) {
+    for (lane, bytes) in state.iter_mut().zip(block.chunks_exact(8)) {
+        *lane ^= u64::from_le_bytes(bytes.try_into().unwrap());
+    }
+    keccak(state);
+}
+
+pub fn shake256(input: &[u8], out: &mut [u8]) {
+    let mut state = [0u64; 25];
+    let mut blocks = input.chunks_exact(136);
+    for block in &mut blocks {
+        absorb(&mut state, block.try_into().unwrap());
+    }
+    let rest = blocks.remainder();
+    let mut last = [0u8; 136];
+    last[..rest.len()].copy_from_slice(rest);
+    last[rest.len()] = 0x1f;
+    last[135] |= 0x80;
+    absorb(&mut state, &last);
+    for (turn, block) in out.chunks_mut(136).enumerate() {
+        if turn > 0 {
+            keccak(&mut state);
+        }
+        for (bytes, lane) in block.chunks_mut(8).zip(&state) {
+            bytes.copy_from_slice(&lane.to_le_bytes()[..bytes.len()]);
+        }
+    }
+}
+
+// ---- the tag
+
+/// Bit by bit without a branch; the elements are little-endian halves.
+pub fn field_product(x: [u8; 16], y: [u8; 16]) -> [u8; 16] {
+    let (mut power, y, mut result) = (u128::from_le_bytes(x), u128::from_le_bytes(y), 0u128);
+    for i in 0..128 {
+        result ^= power & 0u128.wrapping_sub(y >> i & 1);
+        power = power << 1 ^ 0x87 & 0u128.wrapping_sub(power >> 127);
+    }
+    result.to_le_bytes()
+}
+
+fn xor(x: [u8; 16], y: [u8; 16]) -> [u8; 16] {
+    (u128::from_le_bytes(x) ^ u128::from_le_bytes(y)).to_le_bytes()
+}
+
+struct Keys {
+    keystream: [u8; 16],
+    k1: [u8; 16],
+    k2: [u8; 16],
+}
+
+fn derived(triple: &[u8; 768]) -> Keys {
+    let mut input = [1u8; 769];
+    input[1..].copy_from_slice(triple);
+    let mut k = [0u8; 48];
+    shake256(&input, &mut k);
+    let mut seed = [2u8; 17];
+    seed[1..].copy_from_slice(&k[..16]);
+    let mut keystream = [0u8; 16];
+    shake256(&seed, &mut keystream);
+    Keys { keystream, k1: k[16..32].try_into().unwrap(), k2: k[32..].try_into().unwrap() }
+}
+
+fn tag(keys: &Keys, body: [u8; 16]) -> [u8; 16] {
+    xor(field_product(keys.k1, body), keys.k2)
+}
+
+// ---- bytes
+
+fn words(bytes: &[u8]) -> Element {
+    let mut r = [0; 1024];
+    for (word, pair) in r.iter_mut().zip(bytes.chunks_exact(2)) {
+        *word = u16::from_le_bytes([pair[0], pair[1]]);
+    }
+    r
+}
+
+fn put_words(a: &Element, bytes: &mut [u8]) {
+    for (pair, word) in bytes.chunks_exact_mut(2).zip(a) {
+        pair.copy_from_slice(&word.to_le_bytes());
+    }
+}
+
+fn in_range(a: &Element) -> bool {
+    a.iter().fold(true, |all, &word| all & (word < Q))
+}
+
+fn codes_valid(bytes: &[u8]) -> bool {
+    bytes.iter().fold(0, |bad, byte| bad | byte & byte >> 1 & 0x55) == 0
+}
+
+/// 0 is 0, 1 is 1, 2 is −1.
+fn decode(bytes: &[u8]) -> Element {
+    let mut r = [0; 1024];
+    for (four, &byte) in r.chunks_exact_mut(4).zip(bytes) {
+        for (i, value) in four.iter_mut().enumerate() {
+            let code = u16::from(byte >> (2 * i) & 3);
+            *value = (code & 1) + (code >> 1) * (Q - 1);
+        }
+    }
+    r
+}
+
+fn encode(a: &Element, bytes: &mut [u8]) {
+    for (byte, four) in bytes.iter_mut().zip(a.chunks_exact(4)) {
+        let code = |x: u16| (x & 1) as u8 + ((x == Q - 1) as u8) * 2;
+        *byte = code(four[0]) | code(four[1]) << 2 | code(four[2]) << 4 | code(four[3]) << 6;
+    }
+}
+
+pub fn from_noise(bytes: &[u8]) -> Element {
+    let value = |four: u8| {
+        let sum = i16::from(four & 1) + i16::from(four >> 1 & 1) - i16::from(four >> 2 & 1) - i16::from(four >> 3 & 1);
+        let value = if sum == 2 {
+            -1
+        } else if sum == -2 {
+            1
+        } else {
+            sum
+        };
+        if value < 0 {
+            Q - 1
+        } else {
+            value as u16
+        }
+    };
+    let mut r = [0; 1024];
+    for (two, &byte) in r.chunks_exact_mut(2).zip(bytes) {
+        two[0] = value(byte & 15);
+        two[1] = value(byte >> 4);
+    }
+    r
+}
+
+fn triple_from_noise(bytes: &[u8]) -> [Element; 3] {
+    [from_noise(&bytes[..512]), from_noise(&bytes[512..1024]), from_noise(&bytes[1024..])]
+}
+
+fn encode_triple(triple: &[Element; 3]) -> [u8; 768] {
+    let mut bytes = [0; 768];
+    for (part, bytes) in triple.iter().zip(bytes.chunks_exact_mut(256)) {
+        encode(part, bytes);
+    }
+    bytes
+}
+
+fn header(record: &[u8], mark: &[u8; 3]) -> u32 {
+    if record[..3] != *mark {
+        2
+    } else if record[3..5] != [1, 0] {
+        3
+    } else {
+        0
+    }
+}
+
+fn put_header(record: &mut [u8], mark: &[u8; 3]) {
+    record[..3].copy_from_slice(mark);
+    record[3..5].copy_from_slice(&[1, 0]);
+}
+
+// ---- keys: elements and spectra
+
+struct PublicKey {
+    a: Element,
+    b: Element,
+}
+
+/// Spectra of a and b.
+fn judge_public_key(record: &[u8], w: &Factors) -> Result<PublicKey, u32> {
+    match header(record, b"PDK") {
+        0 => {}
+        number => return Err(number),
+    }
+    let (a, b) = (words(&record[5..2053]), words(&record[2053..4101]));
+    if !(in_range(&a) & in_range(&b)) {
+        return Err(4);
+    }
+    let b = forward(&b, w);
+    if has_zero(&b) {
+        return Err(6);
+    }
+    Ok(PublicKey { a: forward(&a, w), b })
+}
+
+/// Spectra of a, b, s.
+struct SecretKey {
+    a: Element,
+    b: Element,
+    s: Element,
+}
+
+fn judge_secret_key(record: &[u8], w: &Factors, v: &Factors) -> Result<SecretKey, u32> {
+    match header(record, b"SDK") {
+        0 => {}
+        number => return Err(number),
+    }
+    let (a, b) = (words(&record[5..2053]), words(&record[2053..4101]));
+    if !(in_range(&a) & in_range(&b)) {
+        return Err(4);
+    }
+    if !codes_valid(&record[4101..]) {
+        return Err(5);
+    }
+    let spectrum_b = forward(&b, w);
+    if has_zero(&spectrum_b) {
+        return Err(6);
+    }
+    let (spectrum_a, spectrum_s) = (forward(&a, w), forward(&decode(&record[4101..]), w));
+    let a_s = backward(&pointwise(&spectrum_a, &spectrum_s), v);
+    let e = difference(&multiple(to_montgomery(35_636), &b), &a_s);
+    if !within(1, &e) {
+        return Err(7);
+    }
+    Ok(SecretKey { a: spectrum_a, b: spectrum_b, s: spectrum_s })
+}
+
+/// Reading ends at the word that completes the polynomial.
+fn uniform(stream: &[u8]) -> Option<Element> {
+    let mut r = [0; 1024];
+    let mut taken = 0;
+    for pair in stream.chunks_exact(2) {
+        let word = u16::from_le_bytes([pair[0], pair[1]]);
+        if word < Q {
+            r[taken] = word;
+            taken += 1;
+            if taken == 1024 {
+                return Some(r);
+            }
+        }
+    }
+    None
+}
+
+// ---- encapsulation and decapsulation on spectra of the key
+
+fn capsule(a: &Element, b: &Element, triple: &[Element; 3], w: &Factors, v: &Factors) -> [Element; 2] {
+    let r = forward(&triple[0], w);
+    [sum(&backward(&pointwise(a, &r), v), &triple[1]), sum(&backward(&pointwise(b, &r), v), &triple[2])]
+}
+
+/// Three more transforms forward and five back, after the key check's three and one.
+fn opened(key: &SecretKey, c1: &Element, c2: &Element, dummy: &[Element; 3], w: &Factors, v: &Factors) -> Option<[Element; 3]> {
+    let [d1, d2] = capsule(&key.a, &key.b, dummy, w, v);
+    let (first, second) = (sum(c1, &d1), sum(c2, &d2));
+    let first_s = backward(&pointwise(&forward(&first, w), &key.s), v);
+    let m = difference(&second, &multiple(to_montgomery(5), &first_s));
+    let e2 = remainders(&m);
+    let spectrum_r = pointwise(&forward(&difference(&second, &e2), w), &reciprocals(&key.b));
+    let r = backward(&spectrum_r, v);
+    let e1 = difference(&first, &backward(&pointwise(&key.a, &spectrum_r), v));
+    let near = within(2, &r) & within(2, &e1);
+    let answer = [difference(&r, &dummy[0]), difference(&e1, &dummy[1]), difference(&e2, &dummy[2])];
+    let ternary = within(1, &answer[0]) & within(1, &answer[1]) & within(1, &answer[2]);
+    (near & ternary).then_some(answer)
+}
+
+// ---- the calls
+
+pub fn keygen(stream: &[u8], noise_s: &[u8], noise_e: &[u8], public_key: &mut [u8], secret_key: &mut [u8]) -> u32 {
+    if stream.len() != 2688 || noise_s.len() != 512 || noise_e.len() != 512 || public_key.len() != 4101 || secret_key.len() != 4357 {
+        return 1;
+    }
+    let Some(a) = uniform(stream) else { return 8 };
+    let (w, v) = (forward_factors(), backward_factors());
+    let (s, e) = (from_noise(noise_s), from_noise(noise_e));
+    let a_s = backward(&pointwise(&forward(&a, &w), &forward(&s, &w)), &v);
+    let b = multiple(to_montgomery(5), &sum(&a_s, &e));
+    if has_zero(&forward(&b, &w)) {
+        return 6;
+    }
+    put_header(public_key, b"PDK");
+    put_words(&a, &mut public_key[5..2053]);
+    put_words(&b, &mut public_key[2053..]);
+    put_header(secret_key, b"SDK");
+    secret_key[5..4101].copy_from_slice(&public_key[5..]);
+    encode(&s, &mut secret_key[4101..]);
+    0
+}
+
+pub fn check_secret_key(secret_key: &[u8]) -> u32 {
+    if secret_key.len() != 4357 {
+        return 1;
+    }
+    judge_secret_key(secret_key, &forward_factors(), &backward_factors()).err().unwrap_or(0)
+}
+
+pub fn encapsulate(public_key: &[u8], triple: &[u8], encapsulation: &mut [u8]) -> u32 {
+    if public_key.len() != 4101 || triple.len() != 768 || encapsulation.len() != 4096 {
+        return 1;
+    }
+    let (w, v) = (forward_factors(), backward_factors());
+    let key = match judge_public_key(public_key, &w) {
+        Ok(key) => key,
+        Err(number) => return number,
+    };
+    if !codes_valid(triple) {
+        return 5;
+    }
+    let triple = [decode(&triple[..256]), decode(&triple[256..512]), decode(&triple[512..])];
+    let [c1, c2] = capsule(&key.a, &key.b, &triple, &w, &v);
+    put_words(&c1, &mut encapsulation[..2048]);
+    put_words(&c2, &mut encapsulation[2048..]);
+    0
+}
+
+pub fn decapsulate(secret_key: &[u8], encapsulation: &[u8], dummy: &[u8], triple: &mut [u8]) -> u32 {
+    if secret_key.len() != 4357 || encapsulation.len() != 4096 || dummy.len() != 768 || triple.len() != 768 {
+        return 1;
+    }
+    let (w, v) = (forward_factors(), backward_factors());
+    let key = match judge_secret_key(secret_key, &w, &v) {
+        Ok(key) => key,
+        Err(number) => return number,
+    };
+    let (c1, c2) = (words(&encapsulation[..2048]), words(&encapsulation[2048..]));
+    if !(in_range(&c1) & in_range(&c2)) {
+        return 4;
+    }
+    if !codes_valid(dummy) {
+        return 5;
+    }
+    let dummy = [decode(&dummy[..256]), decode(&dummy[256..512]), decode(&dummy[512..])];
+    match opened(&key, &c1, &c2, &dummy, &w, &v) {
+        Some(answer) => {
+            triple.copy_from_slice(&encode_triple(&answer));
+            0
+        }
+        None => 9,
+    }
+}
+
+pub fn seal(public_key: &[u8], noise: &[u8], entry: &[u8], sealed: &mut [u8]) -> u32 {
+    if public_key.len() != 4101 || noise.len() != 1536 || entry.len() != 16 || sealed.len() != 4133 {
+        return 1;
+    }
+    let (w, v) = (forward_factors(), backward_factors());
+    let key = match judge_public_key(public_key, &w) {
+        Ok(key) => key,
+        Err(number) => return number,
+    };
+    let triple = triple_from_noise(noise);
+    let [c1, c2] = capsule(&key.a, &key.b, &triple, &w, &v);
+    let keys = derived(&encode_triple(&triple));
+    let body = xor(entry.try_into().unwrap(), keys.keystream);
+    put_header(sealed, b"PLG");
+    put_words(&c1, &mut sealed[5..2053]);
+    put_words(&c2, &mut sealed[2053..4101]);
+    sealed[4101..4117].copy_from_slice(&body);
+    sealed[4117..].copy_from_slice(&tag(&keys, body));
+    0
+}
+
+pub fn open(secret_key: &[u8], sealed: &[u8], dummy_noise: &[u8], entry: &mut [u8]) -> u32 {
+    if secret_key.len() != 4357 || sealed.len() != 4133 || dummy_noise.len() != 1536 || entry.len() != 16 {
+        return 1;
+    }
+    let (w, v) = (forward_factors(), backward_factors());
+    let key = match judge_secret_key(secret_key, &w, &v) {
+        Ok(key) => key,
+        Err(number) => return number,
+    };
+    match header(sealed, b"PLG") {
+        0 => {}
+        number => return number,
+    }
+    let (c1, c2) = (words(&sealed[5..2053]), words(&sealed[2053..4101]));
+    if !(in_range(&c1) & in_range(&c2)) {
+        return 4;
+    }
+    let Some(triple) = opened(&key, &c1, &c2, &triple_from_noise(dummy_noise), &w, &v) else { return 9 };
+    let keys = derived(&encode_triple(&triple));
+    let body: [u8; 16] = sealed[4101..4117].try_into().unwrap();
+    // one comparison of the whole tag
+    if u128::from_le_bytes(tag(&keys, body)) != u128::from_le_bytes(sealed[4117..].try_into().unwrap()) {
+        return 10;
+    }
+    entry.copy_from_slice(&xor(body, keys.keystream));
+    0
+}

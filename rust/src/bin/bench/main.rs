@@ -1,0 +1,265 @@
+//! The proved library beside its peers, all in one run: SHAKE256 beside OpenSSL's, every call beside the same algorithm in Rust, and
+//! keys, sealing and opening beside Botan's NewHope-1024. The two sides of a line take turns, and the least time of each counts.
+mod botan;
+mod fast;
+mod openssl;
+
+use std::hint::black_box;
+
+/// Ticks of the time stamp counter, which Botan counts too.
+#[cfg(target_arch = "x86_64")]
+fn now() -> u64 {
+    // SAFETY: every x86-64 processor has the counter; a fence keeps earlier work before it.
+    unsafe {
+        core::arch::x86_64::_mm_lfence();
+        core::arch::x86_64::_rdtsc()
+    }
+}
+
+/// Elsewhere nanoseconds stand in for cycles; no line with Botan is then printed.
+#[cfg(not(target_arch = "x86_64"))]
+fn now() -> u64 {
+    use std::time::{SystemTime, UNIX_EPOCH};
+    SystemTime::now().duration_since(UNIX_EPOCH).unwrap().as_nanos() as u64
+}
+
+/// Cycles of one call, over `calls` calls.
+fn time(calls: u32, call: &mut impl FnMut()) -> f64 {
+    let start = now();
+    for _ in 0..calls {
+        call();
+    }
+    (now() - start) as f64 / f64::from(calls)
+}
+
+/// The least of each side over rounds in turn, after one round that does not count.
+fn in_turn(rounds: u32, calls: u32, mut ours: impl FnMut(), mut theirs: impl FnMut()) -> (f64, f64) {
+    time(calls, &mut ours);
+    time(calls, &mut theirs);
+    (0..rounds).fold((f64::MAX, f64::MAX), |(least_ours, least_theirs), _| {
+        (least_ours.min(time(calls, &mut ours)), least_theirs.min(time(calls, &mut theirs)))
+    })
+}
+
+fn heading(peer: &str) {
+    println!("\n{peer}");
+    println!("{:<44} {:>12} {:>12} {:>12}", "", "ours", "peer", "peer / ours");
+}
+
+fn line(what: &str, (ours, theirs): (f64, f64)) {
+    println!("{what:<44} {ours:>12.0} {theirs:>12.0} {:>12.2}", theirs / ours);
+}
+
+/// Bytes from a fixed seed.
+fn bytes(seed: u64, length: usize) -> Vec<u8> {
+    let mut state = seed | 1;
+    let mut next = || {
+        state = state.wrapping_mul(6_364_136_223_846_793_005).wrapping_add(1_442_695_040_888_963_407);
+        (state >> 56) as u8
+    };
+    (0..length).map(|_| next()).collect()
+}
+
+fn shake256() {
+    heading(&format!("SHAKE256 beside {} (EVP, one context)", openssl::version()));
+    let peer = openssl::Shake256::new();
+    for (input, output) in [(769, 48), (17, 16), (1 << 20, 32), (32, 1 << 14)] {
+        let data = bytes(1, input);
+        let (mut ours, mut theirs) = (vec![0; output], vec![0; output]);
+        polka::shake256(&data, &mut ours);
+        peer.hash(&data, &mut theirs);
+        assert_eq!(ours, theirs, "SHAKE256, {input} in: the outputs differ");
+        let calls = (200_000 / (input + output + 200)).max(1) as u32;
+        let times = in_turn(
+            200,
+            calls,
+            || polka::shake256(black_box(&data), black_box(&mut ours)),
+            || peer.hash(black_box(&data), black_box(&mut theirs)),
+        );
+        line(&format!("{input} bytes in, {output} out"), times);
+    }
+}
+
+/// One key and one record of each kind, made by the library and, the same, by its peer in Rust.
+struct Records {
+    stream: Vec<u8>,
+    noise_s: Vec<u8>,
+    noise_e: Vec<u8>,
+    public_key: Vec<u8>,
+    secret_key: Vec<u8>,
+    triple: Vec<u8>,
+    encapsulation: Vec<u8>,
+    noise: Vec<u8>,
+    entry: Vec<u8>,
+    sealed: Vec<u8>,
+    dummy_noise: Vec<u8>,
+}
+
+impl Records {
+    fn new() -> Records {
+        let (noise, entry, dummy_noise) = (bytes(4, 1536), bytes(5, 16), bytes(6, 1536));
+        // codes 0 and 1
+        let triple: Vec<u8> = bytes(7, 768).iter().map(|byte| byte & 0x55).collect();
+        let (mut public_key, mut secret_key) = (vec![0; 4101], vec![0; 4357]);
+        let (mut encapsulation, mut sealed) = (vec![0; 4096], vec![0; 4133]);
+        let (stream, noise_s, noise_e) = (1..)
+            .map(|seed| (bytes(10 * seed, 2688), bytes(10 * seed + 2, 512), bytes(10 * seed + 4, 512)))
+            .find(|(stream, noise_s, noise_e)| polka::ffi::keygen(stream, noise_s, noise_e, &mut public_key, &mut secret_key) == 0)
+            .unwrap();
+        assert_eq!(polka::ffi::encapsulate(&public_key, &triple, &mut encapsulation), 0);
+        assert_eq!(polka::ffi::seal(&public_key, &noise, &entry, &mut sealed), 0);
+        let made = Records { stream, noise_s, noise_e, public_key, secret_key, triple, encapsulation, noise, entry, sealed, dummy_noise };
+        made.agree();
+        made
+    }
+
+    /// Both sides do the same work: the peer writes the same bytes.
+    fn agree(&self) {
+        let (mut public_key, mut secret_key) = (vec![0; 4101], vec![0; 4357]);
+        assert_eq!(fast::keygen(&self.stream, &self.noise_s, &self.noise_e, &mut public_key, &mut secret_key), 0);
+        assert!(public_key == self.public_key && secret_key == self.secret_key, "the keys differ");
+        let mut encapsulation = vec![0; 4096];
+        assert_eq!(fast::encapsulate(&self.public_key, &self.triple, &mut encapsulation), 0);
+        assert!(encapsulation == self.encapsulation, "the encapsulations differ");
+        let mut sealed = vec![0; 4133];
+        assert_eq!(fast::seal(&self.public_key, &self.noise, &self.entry, &mut sealed), 0);
+        assert!(sealed == self.sealed, "the sealed entries differ");
+        for open in [polka::ffi::open, fast::open] {
+            let mut entry = vec![0; 16];
+            assert_eq!(open(&self.secret_key, &self.sealed, &self.dummy_noise, &mut entry), 0);
+            assert!(entry == self.entry, "the entries differ");
+        }
+        for decapsulate in [polka::ffi::decapsulate, fast::decapsulate] {
+            let mut triple = vec![0; 768];
+            assert_eq!(decapsulate(&self.secret_key, &self.encapsulation, &self.triple, &mut triple), 0);
+            assert!(triple == self.triple, "the triples differ");
+        }
+    }
+}
+
+type Keygen = fn(&[u8], &[u8], &[u8], &mut [u8], &mut [u8]) -> u32;
+type ThreeIn = fn(&[u8], &[u8], &[u8], &mut [u8]) -> u32;
+type TwoIn = fn(&[u8], &[u8], &mut [u8]) -> u32;
+
+fn keygen_of(call: Keygen, records: &Records) -> impl FnMut() + '_ {
+    let (mut public_key, mut secret_key) = (vec![0; 4101], vec![0; 4357]);
+    move || {
+        let done =
+            call(black_box(&records.stream), black_box(&records.noise_s), &records.noise_e, &mut public_key, black_box(&mut secret_key));
+        assert_eq!(done, 0);
+    }
+}
+
+fn three_in<'a>(call: ThreeIn, inputs: [&'a [u8]; 3], output: usize) -> impl FnMut() + 'a {
+    let mut out = vec![0; output];
+    move || assert_eq!(call(black_box(inputs[0]), black_box(inputs[1]), black_box(inputs[2]), black_box(&mut out)), 0)
+}
+
+fn two_in<'a>(call: TwoIn, inputs: [&'a [u8]; 2], output: usize) -> impl FnMut() + 'a {
+    let mut out = vec![0; output];
+    move || assert_eq!(call(black_box(inputs[0]), black_box(inputs[1]), black_box(&mut out)), 0)
+}
+
+fn beside_rust(records: &Records) {
+    heading("Calls beside the same algorithm in Rust");
+    const ROUNDS: u32 = 150;
+    const CALLS: u32 = 10;
+    let Records { public_key, secret_key, triple, encapsulation, noise, entry, sealed, dummy_noise, .. } = records;
+    let times = in_turn(ROUNDS, CALLS, keygen_of(polka::ffi::keygen, records), keygen_of(fast::keygen, records));
+    line("key generation", times);
+    let check = |call: fn(&[u8]) -> u32| move || assert_eq!(call(black_box(secret_key)), 0);
+    line("key check", in_turn(ROUNDS, CALLS, check(polka::ffi::check_secret_key), check(fast::check_secret_key)));
+    let encapsulate = |call| two_in(call, [public_key, triple], 4096);
+    line("encapsulate", in_turn(ROUNDS, CALLS, encapsulate(polka::ffi::encapsulate), encapsulate(fast::encapsulate)));
+    let decapsulate = |call| three_in(call, [secret_key, encapsulation, triple], 768);
+    line("decapsulate", in_turn(ROUNDS, CALLS, decapsulate(polka::ffi::decapsulate), decapsulate(fast::decapsulate)));
+    let seal = |call| three_in(call, [public_key, noise, entry], 4133);
+    line("seal", in_turn(ROUNDS, CALLS, seal(polka::ffi::seal), seal(fast::seal)));
+    let open = |call| three_in(call, [secret_key, sealed, dummy_noise], 16);
+    line("open", in_turn(ROUNDS, CALLS, open(polka::ffi::open), open(fast::open)));
+}
+
+/// Where the time goes, by the peer in Rust: the archive exports whole calls only.
+fn parts(records: &Records) {
+    println!("\nParts of the calls, in Rust");
+    let alone = |what: &str, call: &mut dyn FnMut()| {
+        let least = (0..150).fold(f64::MAX, |least, _| least.min(time(20, &mut || call())));
+        println!("{what:<44} {least:>12.0}");
+    };
+    let (w, v) = (fast::forward_factors(), fast::backward_factors());
+    let a: fast::Element = std::array::from_fn(|i| 1 + (i * 57) as u16);
+    alone("both tables of factors (once a call)", &mut || {
+        black_box((fast::forward_factors(), fast::backward_factors()));
+    });
+    alone("transform forward (seal 3, open 6)", &mut || {
+        black_box(fast::forward(black_box(&a), &w));
+    });
+    alone("transform backward (seal 2, open 6)", &mut || {
+        black_box(fast::backward(black_box(&a), &v));
+    });
+    alone("product of spectra (seal 2, open 6)", &mut || {
+        black_box(fast::pointwise(black_box(&a), black_box(&a)));
+    });
+    alone("1,024 reciprocals (open 1)", &mut || {
+        black_box(fast::reciprocals(black_box(&a)));
+    });
+    alone("remainders by 5 (open 1)", &mut || {
+        black_box(fast::remainders(black_box(&a)));
+    });
+    alone("polynomial from noise (seal 3, open 3)", &mut || {
+        black_box(fast::from_noise(black_box(&records.noise[..512])));
+    });
+    let mut out = [0; 48];
+    alone("SHAKE256 of a triple (seal 1, open 1)", &mut || fast::shake256(black_box(&records.sealed[..769]), black_box(&mut out)));
+    alone("product in the tag's field (seal 1, open 1)", &mut || {
+        black_box(fast::field_product(black_box([0x5a; 16]), black_box([0xc3; 16])));
+    });
+}
+
+fn beside_newhope(records: &Records) {
+    let Some(version) = botan::version() else {
+        println!("\nbotan not installed (apt-get install botan): no comparison with NewHope-1024");
+        return;
+    };
+    heading(&format!("Calls beside NewHope-1024 of Botan {version}"));
+    let mut keygen = keygen_of(polka::ffi::keygen, records);
+    let mut seal = three_in(polka::ffi::seal, [&records.public_key, &records.noise, &records.entry], 4133);
+    let mut open = three_in(polka::ffi::open, [&records.secret_key, &records.sealed, &records.dummy_noise], 16);
+    let mut least = [f64::MAX; 5];
+    // Botan's runs are short, about as long as a batch of ours: a long mean would count what else the machine does.
+    for _ in 0..100 {
+        let Some(peer) = botan::speed(3) else {
+            println!("botan speed gave no figures for NEWHOPE");
+            return;
+        };
+        let round = [time(10, &mut keygen), time(10, &mut seal), time(10, &mut open), peer.keygen, peer.responder];
+        for (least, new) in least.iter_mut().zip(round) {
+            *least = least.min(new);
+        }
+    }
+    let [keygen, seal, open, peer_keygen, peer_responder] = least;
+    line("key generation, key generation", (keygen, peer_keygen));
+    line("seal, responder (aim: 2.00)", (seal, peer_responder));
+    line("open, responder (aim: 1.00)", (open, peer_responder));
+    println!("NewHope draws its own random bytes and expands its own a; ours are lent. Means of 3 ms for NewHope, of 10 calls for ours.");
+}
+
+fn machine() -> String {
+    let about = std::fs::read_to_string("/proc/cpuinfo").unwrap_or_default();
+    let model = about.lines().find_map(|line| line.strip_prefix("model name")).map(|rest| rest.trim_start_matches([' ', '\t', ':']));
+    model.unwrap_or(std::env::consts::ARCH).to_string()
+}
+
+fn main() {
+    println!("Cycles of the time stamp counter for one call; least of rounds in turn, one thread, one run.");
+    println!("Machine: {}.", machine());
+    println!("Ours: the archive {}. Rust: opt-level 3, baseline {}.", env!("POLKA_LINKED"), std::env::consts::ARCH);
+    println!("Buffers: the same each round, in cache; tables of factors made once a call on both sides.");
+    shake256();
+    let records = Records::new();
+    beside_rust(&records);
+    parts(&records);
+    if cfg!(target_arch = "x86_64") {
+        beside_newhope(&records);
+    }
+}

@@ -1,0 +1,165 @@
+//! The exports of the archive, over slices of any length. They answer document 01's number; under any number but 0 no output byte has
+//! changed. All other modules go through these: nothing else here is unsafe.
+
+// Nothing checks these against the Rattle source: a slice is a pointer and a length.
+mod archive {
+    extern "C" {
+        pub fn polka_keygen(
+            stream: *const u8,
+            stream_length: usize,
+            noise_s: *const u8,
+            noise_s_length: usize,
+            noise_e: *const u8,
+            noise_e_length: usize,
+            public_key: *mut u8,
+            public_key_length: usize,
+            secret_key: *mut u8,
+            secret_key_length: usize,
+        ) -> u32;
+        pub fn polka_check_secret_key(secret_key: *const u8, secret_key_length: usize) -> u32;
+        pub fn polka_encapsulate(
+            public_key: *const u8,
+            public_key_length: usize,
+            triple: *const u8,
+            triple_length: usize,
+            encapsulation: *mut u8,
+            encapsulation_length: usize,
+        ) -> u32;
+        pub fn polka_decapsulate(
+            secret_key: *const u8,
+            secret_key_length: usize,
+            encapsulation: *const u8,
+            encapsulation_length: usize,
+            dummy: *const u8,
+            dummy_length: usize,
+            triple: *mut u8,
+            triple_length: usize,
+        ) -> u32;
+        pub fn polka_seal(
+            public_key: *const u8,
+            public_key_length: usize,
+            noise: *const u8,
+            noise_length: usize,
+            entry: *const u8,
+            entry_length: usize,
+            sealed: *mut u8,
+            sealed_length: usize,
+        ) -> u32;
+        pub fn polka_open(
+            secret_key: *const u8,
+            secret_key_length: usize,
+            sealed: *const u8,
+            sealed_length: usize,
+            dummy_noise: *const u8,
+            dummy_noise_length: usize,
+            entry: *mut u8,
+            entry_length: usize,
+        ) -> u32;
+        pub fn polka_shake256(input: *const u8, input_length: usize, out: *mut u8, out_length: usize);
+    }
+}
+
+// SAFETY, for every call below: the pointers are those of slices with these lengths, and an output is borrowed for writing, so it
+// overlaps nothing. The library keeps no pointer and has no state.
+
+pub fn keygen(stream: &[u8], noise_s: &[u8], noise_e: &[u8], public_key: &mut [u8], secret_key: &mut [u8]) -> u32 {
+    unsafe {
+        archive::polka_keygen(
+            stream.as_ptr(),
+            stream.len(),
+            noise_s.as_ptr(),
+            noise_s.len(),
+            noise_e.as_ptr(),
+            noise_e.len(),
+            public_key.as_mut_ptr(),
+            public_key.len(),
+            secret_key.as_mut_ptr(),
+            secret_key.len(),
+        )
+    }
+}
+
+pub fn check_secret_key(secret_key: &[u8]) -> u32 {
+    unsafe { archive::polka_check_secret_key(secret_key.as_ptr(), secret_key.len()) }
+}
+
+pub fn encapsulate(public_key: &[u8], triple: &[u8], encapsulation: &mut [u8]) -> u32 {
+    unsafe {
+        archive::polka_encapsulate(
+            public_key.as_ptr(),
+            public_key.len(),
+            triple.as_ptr(),
+            triple.len(),
+            encapsulation.as_mut_ptr(),
+            encapsulation.len(),
+        )
+    }
+}
+
+pub fn decapsulate(secret_key: &[u8], encapsulation: &[u8], dummy: &[u8], triple: &mut [u8]) -> u32 {
+    unsafe {
+        archive::polka_decapsulate(
+            secret_key.as_ptr(),
+            secret_key.len(),
+            encapsulation.as_ptr(),
+            encapsulation.len(),
+            dummy.as_ptr(),
+            dummy.len(),
+            triple.as_mut_ptr(),
+            triple.len(),
+        )
+    }
+}
+
+pub fn seal(public_key: &[u8], noise: &[u8], entry: &[u8], sealed: &mut [u8]) -> u32 {
+    unsafe {
+        archive::polka_seal(
+            public_key.as_ptr(),
+            public_key.len(),
+            noise.as_ptr(),
+            noise.len(),
+            entry.as_ptr(),
+            entry.len(),
+            sealed.as_mut_ptr(),
+            sealed.len(),
+        )
+    }
+}
+
+pub fn open(secret_key: &[u8], sealed: &[u8], dummy_noise: &[u8], entry: &mut [u8]) -> u32 {
+    unsafe {
+        archive::polka_open(
+            secret_key.as_ptr(),
+            secret_key.len(),
+            sealed.as_ptr(),
+            sealed.len(),
+            dummy_noise.as_ptr(),
+            dummy_noise.len(),
+            entry.as_mut_ptr(),
+            entry.len(),
+        )
+    }
+}
+
+pub fn shake256(input: &[u8], out: &mut [u8]) {
+    unsafe { archive::polka_shake256(input.as_ptr(), input.len(), out.as_mut_ptr(), out.len()) }
+}
+
+/// Overwrites bytes with zeros by volatile writes, which the compiler may not leave out although nobody reads them again.
+pub(crate) fn wipe(bytes: &mut [u8]) {
+    for byte in bytes {
+        // SAFETY: the pointer is that of a byte borrowed for writing.
+        unsafe { std::ptr::write_volatile(byte, 0) }
+    }
+}
+
+#[cfg(test)]
+mod tests {
+    #[test]
+    fn wiping_leaves_zeros() {
+        let mut bytes = [0xab; 100];
+        super::wipe(&mut bytes[10..90]);
+        assert!(bytes[10..90].iter().all(|&byte| byte == 0));
+        assert!(bytes[..10].iter().chain(&bytes[90..]).all(|&byte| byte == 0xab));
+    }
+}

@@ -1,0 +1,159 @@
+//! Document 01's buffers as types that fix their lengths. They hold bytes of any content: each call judges what it is lent.
+use std::fmt;
+
+use crate::error::Error;
+use crate::ffi;
+
+/// Bytes that anyone may see.
+macro_rules! public_bytes {
+    ($(#[$comment:meta])* $name:ident, $length:expr) => {
+        $(#[$comment])*
+        #[derive(Clone, PartialEq, Eq)]
+        pub struct $name(Box<[u8; $length]>);
+
+        impl $name {
+            pub const LENGTH: usize = $length;
+
+            #[allow(dead_code)]
+            pub(crate) fn zeros() -> Self {
+                $name(Box::new([0; $length]))
+            }
+
+            pub fn as_bytes(&self) -> &[u8; $length] {
+                &self.0
+            }
+
+            #[allow(dead_code)]
+            pub(crate) fn as_mut_bytes(&mut self) -> &mut [u8; $length] {
+                &mut self.0
+            }
+        }
+
+        impl From<[u8; $length]> for $name {
+            fn from(bytes: [u8; $length]) -> Self {
+                $name(Box::new(bytes))
+            }
+        }
+
+        /// [`Error::WrongLength`] is the only refusal.
+        impl TryFrom<&[u8]> for $name {
+            type Error = Error;
+
+            fn try_from(bytes: &[u8]) -> Result<Self, Error> {
+                let bytes: &[u8; $length] = bytes.try_into().map_err(|_| Error::WrongLength)?;
+                Ok($name(Box::new(*bytes)))
+            }
+        }
+
+        impl fmt::Debug for $name {
+            fn fmt(&self, f: &mut fmt::Formatter<'_>) -> fmt::Result {
+                write!(f, concat!(stringify!($name), "("))?;
+                for byte in &self.0[..self.0.len().min(16)] {
+                    write!(f, "{byte:02x}")?;
+                }
+                write!(f, ".., {} bytes)", $length)
+            }
+        }
+    };
+}
+
+/// Bytes that nobody else may see. They stay in one place on the heap, so that a move leaves no copy behind, and are overwritten when
+/// they go. There is no `Clone` and no `PartialEq`, and `Debug` tells only the length.
+macro_rules! secret_bytes {
+    ($(#[$comment:meta])* $name:ident, $length:expr) => {
+        $(#[$comment])*
+        pub struct $name(Box<[u8; $length]>);
+
+        impl $name {
+            pub const LENGTH: usize = $length;
+
+            /// Filled in place by `fill`, a source of random bytes or a reader.
+            pub fn filled_by<E>(fill: impl FnOnce(&mut [u8; $length]) -> Result<(), E>) -> Result<Self, E> {
+                let mut bytes = Self::zeros();
+                fill(&mut bytes.0)?;
+                Ok(bytes)
+            }
+
+            pub(crate) fn zeros() -> Self {
+                $name(Box::new([0; $length]))
+            }
+
+            pub fn as_bytes(&self) -> &[u8; $length] {
+                &self.0
+            }
+
+            #[allow(dead_code)]
+            pub(crate) fn as_mut_bytes(&mut self) -> &mut [u8; $length] {
+                &mut self.0
+            }
+        }
+
+        /// The caller's own copy stays the caller's to overwrite.
+        impl From<&[u8; $length]> for $name {
+            fn from(bytes: &[u8; $length]) -> Self {
+                let mut result = Self::zeros();
+                result.0.copy_from_slice(bytes);
+                result
+            }
+        }
+
+        /// [`Error::WrongLength`] is the only refusal.
+        impl TryFrom<&[u8]> for $name {
+            type Error = Error;
+
+            fn try_from(bytes: &[u8]) -> Result<Self, Error> {
+                let bytes: &[u8; $length] = bytes.try_into().map_err(|_| Error::WrongLength)?;
+                Ok($name::from(bytes))
+            }
+        }
+
+        impl fmt::Debug for $name {
+            fn fmt(&self, f: &mut fmt::Formatter<'_>) -> fmt::Result {
+                write!(f, concat!(stringify!($name), "({} secret bytes)"), $length)
+            }
+        }
+
+        impl Drop for $name {
+            fn drop(&mut self) {
+                ffi::wipe(&mut self.0[..]);
+            }
+        }
+    };
+}
+
+public_bytes! {
+    /// "PDK", version, a, b.
+    PublicKey, 4101
+}
+public_bytes! {
+    /// "PLG", version, c1, c2, body, tag.
+    SealedEntry, 4133
+}
+public_bytes! {
+    /// c1, c2. Document 01 calls it a bare capsule.
+    Encapsulation, 4096
+}
+public_bytes! {
+    /// 1,344 words from which a is taken. The public key shows them.
+    UniformStream, 2688
+}
+secret_bytes! {
+    /// "SDK", version, a, b, s. Document 01 calls it a desk key.
+    SecretKey, 4357
+}
+secret_bytes! {
+    /// r, e1, e2, two bits a coefficient.
+    Triple, 768
+}
+secret_bytes! {
+    /// What is sealed.
+    Entry, 16
+}
+secret_bytes! {
+    /// Random bytes for the ternary polynomial s or e of a key.
+    KeyNoise, 512
+}
+secret_bytes! {
+    /// Random bytes for a triple: of a sealing, or the dummy of an opening.
+    TripleNoise, 1536
+}

@@ -1,0 +1,137 @@
+//! A case is a call with its inputs and the lengths of its outputs. It runs on the reference, on the library, or on both side by side.
+use super::reference;
+
+#[derive(Clone, Copy, PartialEq, Eq, Debug)]
+pub enum Call {
+    Keygen,
+    CheckSecretKey,
+    Encapsulate,
+    Decapsulate,
+    Seal,
+    Open,
+    Shake256,
+}
+
+#[derive(Clone, Debug)]
+pub struct Case {
+    pub name: String,
+    pub call: Call,
+    pub inputs: Vec<Vec<u8>>,
+    pub outputs: Vec<usize>,
+}
+
+type TwoIn = fn(&[u8], &[u8], &mut [u8]) -> u32;
+type ThreeIn = fn(&[u8], &[u8], &[u8], &mut [u8]) -> u32;
+type ThreeInTwoOut = fn(&[u8], &[u8], &[u8], &mut [u8], &mut [u8]) -> u32;
+
+/// The seven calls on bytes, by whoever supplies them.
+pub struct Calls {
+    pub keygen: ThreeInTwoOut,
+    pub check_secret_key: fn(&[u8]) -> u32,
+    pub encapsulate: TwoIn,
+    pub decapsulate: ThreeIn,
+    pub seal: ThreeIn,
+    pub open: ThreeIn,
+    pub shake256: fn(&[u8], &mut [u8]),
+}
+
+pub const REFERENCE: Calls = Calls {
+    keygen: reference::keygen,
+    check_secret_key: reference::check_secret_key,
+    encapsulate: reference::encapsulate,
+    decapsulate: reference::decapsulate,
+    seal: reference::seal,
+    open: reference::open,
+    shake256: reference::shake256,
+};
+
+/// The number, and every output buffer afterwards.
+#[derive(Clone, PartialEq, Eq, Debug)]
+pub struct Outcome {
+    pub number: u32,
+    pub outputs: Vec<Vec<u8>>,
+}
+
+/// Bytes before and after each output that no call may touch.
+const MARGIN: usize = 64;
+
+/// What stands in a buffer before the call.
+fn pattern(length: usize) -> Vec<u8> {
+    (0..length).map(|i| (i * 37 + 11) as u8).collect()
+}
+
+/// Runs a case; fails where a byte beside an output changes, or a byte of an output under a number other than 0.
+pub fn run(calls: &Calls, case: &Case) -> Outcome {
+    let before: Vec<Vec<u8>> = case.outputs.iter().map(|length| pattern(length + 2 * MARGIN)).collect();
+    let mut after = before.clone();
+    let number = {
+        let input = |i: usize| &case.inputs[i][..];
+        let mut lent: Vec<&mut [u8]> =
+            after.iter_mut().zip(&case.outputs).map(|(buffer, length)| &mut buffer[MARGIN..MARGIN + length]).collect();
+        match case.call {
+            Call::Keygen => {
+                let (public_key, secret_key) = lent.split_at_mut(1);
+                (calls.keygen)(input(0), input(1), input(2), public_key[0], secret_key[0])
+            }
+            Call::CheckSecretKey => (calls.check_secret_key)(input(0)),
+            Call::Encapsulate => (calls.encapsulate)(input(0), input(1), lent[0]),
+            Call::Decapsulate => (calls.decapsulate)(input(0), input(1), input(2), lent[0]),
+            Call::Seal => (calls.seal)(input(0), input(1), input(2), lent[0]),
+            Call::Open => (calls.open)(input(0), input(1), input(2), lent[0]),
+            Call::Shake256 => {
+                (calls.shake256)(input(0), lent[0]);
+                0
+            }
+        }
+    };
+    for ((before, after), length) in before.iter().zip(&after).zip(&case.outputs) {
+        let beside = |buffer: &[u8]| [&buffer[..MARGIN], &buffer[MARGIN + length..]].concat();
+        assert!(beside(before) == beside(after), "{}: written outside the buffer", case.name);
+        assert!(number == 0 || before == after, "{}: refused under {number}, and an output has changed", case.name);
+    }
+    let outputs = after.iter().zip(&case.outputs).map(|(buffer, length)| buffer[MARGIN..MARGIN + length].to_vec()).collect();
+    Outcome { number, outputs }
+}
+
+/// Counts agreements, and remembers by name what did not agree.
+pub struct Count {
+    what: &'static str,
+    cases: usize,
+    numbers: [usize; 11],
+    mismatches: Vec<String>,
+}
+
+impl Count {
+    pub fn new(what: &'static str) -> Count {
+        Count { what, cases: 0, numbers: [0; 11], mismatches: vec![] }
+    }
+
+    pub fn add(&mut self, name: &str, expected: &Outcome, actual: &Outcome) {
+        self.cases += 1;
+        self.numbers[expected.number.min(10) as usize] += 1;
+        if expected.number != actual.number {
+            self.mismatches.push(format!("{name}: number {}, expected {}", actual.number, expected.number));
+        } else if expected.outputs != actual.outputs {
+            self.mismatches.push(format!("{name}: number {}, other bytes", actual.number));
+        }
+    }
+
+    pub fn agree(&mut self, name: &str, agrees: bool) {
+        self.cases += 1;
+        if !agrees {
+            self.mismatches.push(name.to_string());
+        }
+    }
+
+    /// Prints the count, and fails on any mismatch.
+    pub fn finish(self) {
+        let seen: Vec<String> =
+            (0..).zip(self.numbers).filter(|(_, count)| *count > 0).map(|(number, count)| format!("{number}: {count}")).collect();
+        let seen = if seen.is_empty() { String::new() } else { format!(" (numbers {})", seen.join(", ")) };
+        println!("{}: {} cases, {} mismatches{seen}", self.what, self.cases, self.mismatches.len());
+        for mismatch in self.mismatches.iter().take(20) {
+            println!("    {mismatch}");
+        }
+        assert!(self.mismatches.is_empty(), "{}: {} mismatches", self.what, self.mismatches.len());
+    }
+}

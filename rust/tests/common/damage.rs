@@ -1,0 +1,359 @@
+//! Sound cases of every call, and each kind of damage to them, with the number that document 01 gives where it is plain.
+use super::cases::{run, Call, Case, REFERENCE};
+use super::random::Random;
+use super::reference::{self, N, Q};
+
+/// A sound case of each call, all under one key.
+pub struct Sound {
+    pub keygen: Case,
+    pub check_secret_key: Case,
+    pub encapsulate: Case,
+    pub decapsulate: Case,
+    pub seal: Case,
+    pub open: Case,
+}
+
+fn case(name: &str, call: Call, inputs: Vec<Vec<u8>>, outputs: &[usize]) -> Case {
+    Case { name: name.into(), call, inputs, outputs: outputs.to_vec() }
+}
+
+/// What the reference writes; none where it refuses.
+fn written(case: &Case) -> Option<Vec<Vec<u8>>> {
+    let outcome = run(&REFERENCE, case);
+    (outcome.number == 0).then_some(outcome.outputs)
+}
+
+impl Sound {
+    pub fn new(random: &mut Random) -> Sound {
+        // about one random key in sixty is refused
+        let (keygen, keys) = loop {
+            let inputs = vec![random.bytes(2688), random.bytes(512), random.bytes(512)];
+            let keygen = case("keygen", Call::Keygen, inputs, &[4101, 4357]);
+            if let Some(keys) = written(&keygen) {
+                break (keygen, keys);
+            }
+        };
+        let [public_key, secret_key]: [Vec<u8>; 2] = keys.try_into().unwrap();
+        let check_secret_key = case("check_secret_key", Call::CheckSecretKey, vec![secret_key.clone()], &[]);
+        let encapsulate = case("encapsulate", Call::Encapsulate, vec![public_key.clone(), random.codes(768)], &[4096]);
+        let encapsulation = written(&encapsulate).unwrap().remove(0);
+        let decapsulate = case("decapsulate", Call::Decapsulate, vec![secret_key.clone(), encapsulation, random.codes(768)], &[768]);
+        let seal = case("seal", Call::Seal, vec![public_key, random.bytes(1536), random.bytes(16)], &[4133]);
+        let sealed = written(&seal).unwrap().remove(0);
+        let open = case("open", Call::Open, vec![secret_key, sealed, random.bytes(1536)], &[16]);
+        Sound { keygen, check_secret_key, encapsulate, decapsulate, seal, open }
+    }
+
+    pub fn all(&self) -> [&Case; 6] {
+        [&self.keygen, &self.check_secret_key, &self.encapsulate, &self.decapsulate, &self.seal, &self.open]
+    }
+}
+
+type Edit = Box<dyn Fn(&mut Case)>;
+
+pub struct Damage {
+    pub name: String,
+    /// The number when this is the only damage, where it hangs on nothing else.
+    pub number: Option<u32>,
+    edit: Edit,
+}
+
+impl Damage {
+    fn new(name: String, number: Option<u32>, edit: impl Fn(&mut Case) + 'static) -> Damage {
+        Damage { name, number, edit: Box::new(edit) }
+    }
+
+    pub fn apply(&self, case: &Case) -> Case {
+        let mut damaged = case.clone();
+        damaged.name = format!("{}, {}", case.name, self.name);
+        (self.edit)(&mut damaged);
+        damaged
+    }
+}
+
+// ---- edits of bytes. A buffer that an earlier edit has cut short is left as it is.
+
+fn put(bytes: &mut [u8], at: usize, value: &[u8]) {
+    if let Some(place) = bytes.get_mut(at..at + value.len()) {
+        place.copy_from_slice(value);
+    }
+}
+
+fn word(bytes: &[u8], at: usize) -> Option<u32> {
+    Some(u32::from(u16::from_le_bytes(bytes.get(at..at + 2)?.try_into().ok()?)))
+}
+
+fn put_word(bytes: &mut [u8], at: usize, value: u32) {
+    put(bytes, at, &(value as u16).to_le_bytes());
+}
+
+fn move_word(bytes: &mut [u8], at: usize, by: u32) {
+    if let Some(value) = word(bytes, at) {
+        put_word(bytes, at, (value + by) % Q);
+    }
+}
+
+fn element(bytes: &[u8], at: usize) -> Option<reference::Element> {
+    (0..N).map(|i| word(bytes, at + 2 * i)).collect()
+}
+
+fn put_code(bytes: &mut [u8], at: usize, place: usize, code: u8) {
+    if let Some(byte) = bytes.get_mut(at + place / 4) {
+        let shift = 2 * (place % 4);
+        *byte = *byte & !(3 << shift) | code << shift;
+    }
+}
+
+/// The value of f at a root of X^1024 + 1, by Horner's rule.
+fn value_at(f: &[u32], root: u64) -> u32 {
+    f.iter().rev().fold(0, |value, &c| (value * root + u64::from(c)) % u64::from(Q)) as u32
+}
+
+/// 3 to an odd power.
+fn root(exponent: usize) -> u64 {
+    (0..exponent).fold(1, |power, _| power * 3 % u64::from(Q))
+}
+
+// ---- kinds of damage
+
+/// Every buffer too short, too long and empty.
+pub fn lengths(case: &Case) -> Vec<Damage> {
+    let mut all = vec![];
+    let mut add = |name: String, edit: Edit| all.push(Damage { name, number: Some(1), edit });
+    for (i, length) in case.inputs.iter().map(Vec::len).enumerate() {
+        for other in [length - 1, length + 1, 0, 1, 2 * length] {
+            add(format!("input {i} of length {other}"), Box::new(move |case| case.inputs[i].resize(other, 0)));
+        }
+    }
+    for (i, &length) in case.outputs.iter().enumerate() {
+        for other in [length - 1, length + 1, 0, 1, 2 * length] {
+            add(format!("output {i} of length {other}"), Box::new(move |case| case.outputs[i] = other));
+        }
+    }
+    all
+}
+
+/// Each byte of the mark, other records' marks, and versions.
+pub fn headers(input: usize) -> Vec<Damage> {
+    let mut all = vec![];
+    for byte in 0..3 {
+        for flip in [0x01, 0x20, 0x80, 0xff] {
+            all.push(Damage::new(format!("input {input}, mark byte {byte} xor {flip:#04x}"), Some(2), move |case| {
+                if let Some(place) = case.inputs[input].get_mut(byte) {
+                    *place ^= flip;
+                }
+            }));
+        }
+    }
+    for mark in [b"PDK", b"SDK", b"PLG", b"pdk", b"sdk", b"plg"] {
+        all.push(Damage::new(format!("input {input}, mark {}", String::from_utf8_lossy(mark)), None, move |case| {
+            put(&mut case.inputs[input], 0, mark);
+        }));
+    }
+    let single_bits = (1..16).map(|bit| 1 << bit);
+    for version in [0u16, 3, 255, 257, 513, 65535].into_iter().chain(single_bits) {
+        all.push(Damage::new(format!("input {input}, version {version}"), Some(3), move |case| {
+            put(&mut case.inputs[input], 3, &version.to_le_bytes());
+        }));
+    }
+    all
+}
+
+/// Words at q and above, at the first and last places of both elements; and the largest word that is allowed.
+pub fn words(input: usize, start: usize) -> Vec<Damage> {
+    let mut all = vec![];
+    for place in [0, 1, 511, 512, 1022, 1023, 1024, 1025, 1536, 2046, 2047] {
+        for (value, number) in [(59_392, None), (59_393, Some(4)), (59_394, Some(4)), (65_535, Some(4))] {
+            all.push(Damage::new(format!("input {input}, word {place} is {value}"), number, move |case| {
+                put_word(&mut case.inputs[input], start + 2 * place, value);
+            }));
+        }
+    }
+    all
+}
+
+/// Code 3 at first, last and middle places.
+pub fn codes(input: usize, start: usize, count: usize) -> Vec<Damage> {
+    let mut places: Vec<usize> = [0, 1, 2, 3, 4, 511, 512, 1022, 1023, 1024, 2047, 2048].into_iter().filter(|&p| p < count).collect();
+    places.extend([count - 4, count - 3, count - 2, count - 1]);
+    places
+        .into_iter()
+        .map(|place| {
+            Damage::new(format!("input {input}, code {place} is 3"), Some(5), move |case| {
+                put_code(&mut case.inputs[input], start, place, 3);
+            })
+        })
+        .collect()
+}
+
+/// b is zero, or zero at one root of X^1024 + 1. The key is input 0.
+pub fn no_units() -> Vec<Damage> {
+    let mut all = vec![Damage::new("b is 0".into(), Some(6), |case| put(&mut case.inputs[0], 2053, &[0; 2048]))];
+    for exponent in [1, 3, 5, 1023, 1025, 2047] {
+        all.push(Damage::new(format!("b is 0 at the root 3^{exponent}"), Some(6), move |case| {
+            if let Some(b) = element(&case.inputs[0], 2053) {
+                move_word(&mut case.inputs[0], 2053, Q - value_at(&b, root(exponent)));
+            }
+        }));
+    }
+    all
+}
+
+/// b moved at one coefficient, or s. A move by 10 can leave the key sound, one by 15 cannot; a few leave b no unit.
+pub fn parted_keys() -> Vec<Damage> {
+    let mut all = vec![];
+    for place in [0, 1, 511, 512, 1022, 1023] {
+        for by in [1, Q - 1, 5, Q - 5, 7, 10, Q - 10, 15, Q - 15] {
+            all.push(Damage::new(format!("b[{place}] moved by {by}"), None, move |case| {
+                move_word(&mut case.inputs[0], 2053 + 2 * place, by);
+            }));
+        }
+        all.push(Damage::new(format!("s[{place}] turned"), Some(7), move |case| {
+            if let Some(&byte) = case.inputs[0].get(4101 + place / 4) {
+                let code = byte >> (2 * (place % 4)) & 3;
+                put_code(&mut case.inputs[0], 4101, place, (code + 1) % 3);
+            }
+        }));
+    }
+    all
+}
+
+/// Words of c1 and c2 moved: some are still encapsulations of another triple. The capsule is input 1.
+pub fn moved_capsules(start: usize) -> Vec<Damage> {
+    let mut all = vec![];
+    for place in [0, 1, 511, 1023, 1024, 1025, 1535, 2047] {
+        for by in [1, 2, 3, 4, 5, 15, 29_696, 29_697, Q - 5, Q - 3, Q - 2, Q - 1] {
+            all.push(Damage::new(format!("c word {place} moved by {by}"), None, move |case| {
+                move_word(&mut case.inputs[1], start + 2 * place, by);
+            }));
+        }
+    }
+    for value in [0, 1, 2, 5, 29_696, 29_697, 59_391, 59_392] {
+        all.push(Damage::new(format!("all words of c are {value}"), None, move |case| {
+            for place in 0..2 * N {
+                put_word(&mut case.inputs[1], start + 2 * place, value);
+            }
+        }));
+    }
+    all.push(Damage::new("c1 and c2 exchanged".into(), None, move |case| {
+        if let Some(both) = case.inputs[1].get_mut(start..start + 4 * N) {
+            both.rotate_left(2 * N);
+        }
+    }));
+    all
+}
+
+/// Every bit of body and tag. The sealed entry is input 1.
+pub fn body_and_tag() -> Vec<Damage> {
+    (0..256)
+        .map(|bit| {
+            let part = if bit < 128 { "body" } else { "tag" };
+            Damage::new(format!("{part} bit {}", bit % 128), Some(10), move |case| {
+                if let Some(byte) = case.inputs[1].get_mut(4101 + bit / 8) {
+                    *byte ^= 1 << (bit % 8);
+                }
+            })
+        })
+        .collect()
+}
+
+/// Dummies and noise at their limits; none changes an answer.
+pub fn dummies(input: usize, coded: bool) -> Vec<Damage> {
+    // 0x55 is every code 1, 0xaa every code 2; as noise 0x11 is every coefficient 1, 0x33 and 0x44 every −1
+    let fills: &[u8] = if coded { &[0x00, 0x55, 0xaa] } else { &[0x00, 0x11, 0x33, 0x44, 0xcc, 0xff, 0x5a] };
+    fills
+        .iter()
+        .map(|&fill| Damage::new(format!("input {input} all {fill:#04x}"), Some(0), move |case| case.inputs[input].fill(fill)))
+        .collect()
+}
+
+/// Streams with just enough words below q, one too few, and keys whose b is no unit.
+pub fn streams(random: &mut Random) -> Vec<Damage> {
+    let mut all = vec![];
+    for refused in [0, 1, 319, 320, 321, 322, 1343, 1344] {
+        for kind in 0..3 {
+            // refused words first, last, and spread
+            let mut words: Vec<bool> = (0..1344).map(|i| i < refused).collect();
+            match kind {
+                0 => {}
+                1 => words.reverse(),
+                _ => (1..1344).rev().for_each(|i| words.swap(i, random.below(i + 1))),
+            }
+            let words: Vec<u16> = words
+                .into_iter()
+                .map(|refuse| if refuse { *random.pick(&[59_393, 59_394, 65_535]) } else { random.below(Q as usize) as u16 })
+                .collect();
+            let bytes: Vec<u8> = words.iter().flat_map(|word| word.to_le_bytes()).collect();
+            let number = if refused > 320 { Some(8) } else { None };
+            all.push(Damage::new(format!("stream with {refused} words passed over, kind {kind}"), number, move |case| {
+                case.inputs[0].clone_from(&bytes);
+            }));
+        }
+    }
+    all.push(Damage::new("s and e are 0".into(), Some(6), |case| {
+        case.inputs[1].fill(0);
+        case.inputs[2].fill(0);
+    }));
+    all.push(Damage::new("a and e are 0".into(), Some(6), |case| {
+        case.inputs[0].fill(0);
+        case.inputs[2].fill(0);
+    }));
+    // with s = 1 and e = 0, b is 5 a: zero at a root where a is
+    for exponent in [1, 3, 2047] {
+        all.push(Damage::new(format!("b is 0 at the root 3^{exponent}"), Some(6), move |case| {
+            for i in 0..1344 {
+                put_word(&mut case.inputs[0], 2 * i, (i * i + 7) as u32 % Q);
+            }
+            if let Some(a) = element(&case.inputs[0], 0) {
+                move_word(&mut case.inputs[0], 0, Q - value_at(&a, root(exponent)));
+            }
+            case.inputs[1].fill(0);
+            put(&mut case.inputs[1], 0, &[1]);
+            case.inputs[2].fill(0);
+        }));
+    }
+    all
+}
+
+/// All kinds that fit a call.
+pub fn of(call: Call, case: &Case, random: &mut Random) -> Vec<Damage> {
+    let mut all = lengths(case);
+    match call {
+        Call::Keygen => all.extend(streams(random)),
+        Call::CheckSecretKey | Call::Decapsulate | Call::Open => {
+            all.extend(headers(0));
+            all.extend(words(0, 5));
+            all.extend(codes(0, 4101, 1024));
+            all.extend(no_units());
+            all.extend(parted_keys());
+        }
+        Call::Encapsulate | Call::Seal => {
+            all.extend(headers(0));
+            all.extend(words(0, 5));
+            all.extend(no_units());
+        }
+        Call::Shake256 => {}
+    }
+    match call {
+        Call::Encapsulate => {
+            all.extend(codes(1, 0, 3072));
+            all.extend(dummies(1, true));
+        }
+        Call::Decapsulate => {
+            all.extend(words(1, 0));
+            all.extend(moved_capsules(0));
+            all.extend(codes(2, 0, 3072));
+            all.extend(dummies(2, true));
+        }
+        Call::Seal => all.extend(dummies(1, false)),
+        Call::Open => {
+            all.extend(headers(1));
+            all.extend(words(1, 5));
+            all.extend(moved_capsules(5));
+            all.extend(body_and_tag());
+            all.extend(dummies(2, false));
+        }
+        _ => {}
+    }
+    all
+}

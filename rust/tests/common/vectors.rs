@@ -1,0 +1,128 @@
+//! The vectors by other hands: files NAME.bin, with the names of their cases in NAME.txt where that is there too.
+//! A field is a 32-bit little-endian length and that many bytes; a case is its inputs, the number, an empty field, and the outputs.
+use std::path::{Path, PathBuf};
+
+use super::cases::{run, Call, Calls, Case, Count, Outcome};
+
+/// Where the files stand: POLKA_VECTORS, or the first of these folders that has them.
+pub fn folder() -> PathBuf {
+    if let Some(folder) = std::env::var_os("POLKA_VECTORS") {
+        return folder.into();
+    }
+    let top = Path::new(env!("CARGO_MANIFEST_DIR")).join("..");
+    ["vectors", "crates/reference_vectors/data"]
+        .iter()
+        .map(|place| top.join(place))
+        .find(|folder| folder.join("open.bin").exists())
+        .expect("no vectors: name their folder in POLKA_VECTORS")
+}
+
+pub struct Vector {
+    pub name: String,
+    pub inputs: Vec<Vec<u8>>,
+    pub number: u32,
+    pub outputs: Vec<Vec<u8>>,
+}
+
+pub fn read(file: &str, inputs: usize, outputs: usize) -> Vec<Vector> {
+    let path = folder().join(file).with_extension("bin");
+    let bytes = std::fs::read(&path).unwrap_or_else(|error| panic!("{}: {error}", path.display()));
+    let names: Vec<String> = std::fs::read_to_string(path.with_extension("txt"))
+        .map(|text| text.lines().filter_map(|line| line.strip_prefix("name = ")).map(str::to_string).collect())
+        .unwrap_or_default();
+    let mut rest = &bytes[..];
+    let mut field = || {
+        let (length, after) = rest.split_at_checked(4)?;
+        let (field, after) = after.split_at_checked(number(length) as usize).expect("a field that is cut off");
+        rest = after;
+        Some(field.to_vec())
+    };
+    let mut vectors = vec![];
+    while let Some(first) = field() {
+        let mut next = || field().expect("a case that is cut off");
+        let mut all = vec![first];
+        all.resize_with(inputs, &mut next);
+        let answer = number(&next());
+        assert!(next().is_empty(), "{file}: no empty field after the number");
+        let mut results = vec![];
+        results.resize_with(outputs, &mut next);
+        let name = names.get(vectors.len()).map_or_else(|| format!("case {}", vectors.len() + 1), String::clone);
+        vectors.push(Vector { name: format!("{file}: {name}"), inputs: all, number: answer, outputs: results });
+    }
+    assert!(!vectors.is_empty(), "{file}: no cases");
+    assert!(names.is_empty() || names.len() == vectors.len(), "{file}: .txt and .bin differ in the count of cases");
+    vectors
+}
+
+/// A number is four bytes, little-endian, two's complement.
+pub fn number(field: &[u8]) -> u32 {
+    u32::from_le_bytes(field.try_into().expect("a number of four bytes"))
+}
+
+/// Every case of one file. The last inputs are the lengths of the outputs.
+fn compare(calls: &Calls, what: &'static str, file: &str, call: Call, inputs: usize, outputs: usize) {
+    let mut count = Count::new(what);
+    for vector in read(file, inputs + outputs, outputs) {
+        let lengths = vector.inputs[inputs..].iter().map(|field| number(field) as usize).collect();
+        let case = Case { name: vector.name, call, inputs: vector.inputs[..inputs].to_vec(), outputs: lengths };
+        let actual = run(calls, &case);
+        // `run` has seen to it that a refusal leaves the outputs as they were.
+        let outputs = if vector.number == 0 { vector.outputs } else { actual.outputs.clone() };
+        count.add(&case.name, &Outcome { number: vector.number, outputs }, &actual);
+    }
+    count.finish();
+}
+
+pub fn compare_keygen(calls: &Calls) {
+    compare(calls, "vectors, keygen", "keygen", Call::Keygen, 3, 2);
+}
+
+pub fn compare_check_secret_key(calls: &Calls) {
+    compare(calls, "vectors, check_secret_key", "check_secret_key", Call::CheckSecretKey, 1, 0);
+}
+
+pub fn compare_encapsulate(calls: &Calls) {
+    compare(calls, "vectors, encapsulate", "encapsulate", Call::Encapsulate, 2, 1);
+}
+
+pub fn compare_decapsulate(calls: &Calls) {
+    compare(calls, "vectors, decapsulate", "decapsulate", Call::Decapsulate, 3, 1);
+}
+
+pub fn compare_seal(calls: &Calls) {
+    compare(calls, "vectors, seal", "seal", Call::Seal, 3, 1);
+}
+
+pub fn compare_open(calls: &Calls) {
+    compare(calls, "vectors, open", "open", Call::Open, 3, 1);
+}
+
+pub fn compare_shake256(calls: &Calls) {
+    compare(calls, "vectors, shake256", "shake256", Call::Shake256, 1, 1);
+}
+
+/// The desk program's line for its standard input.
+pub fn desk_line(calls: &Calls, input: &[u8]) -> (u32, String) {
+    if input.len() != 10_026 {
+        return (1, "1 -\n".into());
+    }
+    let inputs = vec![input[..4357].to_vec(), input[4357..8490].to_vec(), input[8490..].to_vec()];
+    let Outcome { number, outputs } = run(calls, &Case { name: "desk".into(), call: Call::Open, inputs, outputs: vec![16] });
+    if number != 0 {
+        return (number, format!("{number} -\n"));
+    }
+    let digits: String = outputs[0].iter().map(|byte| format!("{byte:02x}")).collect();
+    (0, format!("0 {digits}\n"))
+}
+
+/// The desk's inputs, opened by the call: number and line.
+pub fn compare_desk(calls: &Calls) {
+    let mut count = Count::new("vectors, desk");
+    for vector in read("desk", 1, 1) {
+        let (number, line) = desk_line(calls, &vector.inputs[0]);
+        // the files have the line with or without its line feed
+        let same = |bytes: &[u8]| bytes == line.as_bytes() || bytes == line.trim_end().as_bytes();
+        count.agree(&vector.name, number == vector.number && (vector.outputs[0].is_empty() || same(&vector.outputs[0])));
+    }
+    count.finish();
+}

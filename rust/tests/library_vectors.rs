@@ -1,0 +1,47 @@
+//! The library on all vectors by other hands.
+mod common;
+#[path = "common/library.rs"]
+mod library;
+
+use common::vectors;
+use library::LIBRARY;
+
+#[test]
+fn keygen() {
+    vectors::compare_keygen(&LIBRARY);
+}
+
+#[test]
+fn check_secret_key() {
+    vectors::compare_check_secret_key(&LIBRARY);
+}
+
+#[test]
+fn encapsulate() {
+    vectors::compare_encapsulate(&LIBRARY);
+}
+
+#[test]
+fn decapsulate() {
+    vectors::compare_decapsulate(&LIBRARY);
+}
+
+#[test]
+fn seal() {
+    vectors::compare_seal(&LIBRARY);
+}
+
+#[test]
+fn open() {
+    vectors::compare_open(&LIBRARY);
+}
+
+#[test]
+fn shake256() {
+    vectors::compare_shake256(&LIBRARY);
+}
+
+#[test]
+fn desk() {
+    vectors::compare_desk(&LIBRARY);
+}

@@ -1,0 +1,30 @@
+//! The Rust code that the benchmark times beside the library does the same work: it agrees with every vector. This file needs no archive.
+mod common;
+#[allow(dead_code)]
+#[path = "../src/bin/bench/fast.rs"]
+mod fast;
+
+use common::cases::Calls;
+use common::vectors;
+
+const FAST: Calls = Calls {
+    keygen: fast::keygen,
+    check_secret_key: fast::check_secret_key,
+    encapsulate: fast::encapsulate,
+    decapsulate: fast::decapsulate,
+    seal: fast::seal,
+    open: fast::open,
+    shake256: fast::shake256,
+};
+
+#[test]
+fn every_call_on_every_vector() {
+    vectors::compare_keygen(&FAST);
+    vectors::compare_check_secret_key(&FAST);
+    vectors::compare_encapsulate(&FAST);
+    vectors::compare_decapsulate(&FAST);
+    vectors::compare_seal(&FAST);
+    vectors::compare_open(&FAST);
+    vectors::compare_shake256(&FAST);
+    vectors::compare_desk(&FAST);
+}

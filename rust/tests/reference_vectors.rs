@@ -1,0 +1,104 @@
+//! The independent implementation on all vectors: what the library is compared with is itself held against other hands' results.
+//! This file needs no archive: POLKA_ARCHIVE=none cargo test --release --test reference_vectors
+mod common;
+
+use common::cases::{Count, REFERENCE};
+use common::{reference, vectors};
+
+#[test]
+fn keygen() {
+    vectors::compare_keygen(&REFERENCE);
+}
+
+#[test]
+fn check_secret_key() {
+    vectors::compare_check_secret_key(&REFERENCE);
+}
+
+#[test]
+fn encapsulate() {
+    vectors::compare_encapsulate(&REFERENCE);
+}
+
+#[test]
+fn decapsulate() {
+    vectors::compare_decapsulate(&REFERENCE);
+}
+
+#[test]
+fn seal() {
+    vectors::compare_seal(&REFERENCE);
+}
+
+#[test]
+fn open() {
+    vectors::compare_open(&REFERENCE);
+}
+
+#[test]
+fn shake256() {
+    vectors::compare_shake256(&REFERENCE);
+}
+
+#[test]
+fn desk() {
+    vectors::compare_desk(&REFERENCE);
+}
+
+fn element(bytes: &[u8]) -> reference::Element {
+    bytes.chunks(2).map(|pair| u32::from(u16::from_le_bytes([pair[0], pair[1]]))).collect()
+}
+
+#[test]
+fn products() {
+    let mut count = Count::new("vectors, ring products");
+    for vector in vectors::read("example_products", 2, 1) {
+        let actual = reference::product(&element(&vector.inputs[0]), &element(&vector.inputs[1]));
+        count.agree(&vector.name, actual == element(&vector.outputs[0]));
+    }
+    count.finish();
+}
+
+#[test]
+fn inverses() {
+    let mut count = Count::new("vectors, ring inverses");
+    for vector in vectors::read("example_inverses", 1, 1) {
+        let expected = (vector.number == 0).then(|| element(&vector.outputs[0]));
+        count.agree(&vector.name, reference::inverse(&element(&vector.inputs[0])) == expected);
+    }
+    count.finish();
+}
+
+#[test]
+fn field_products() {
+    let mut count = Count::new("vectors, products in the tag's field");
+    for vector in vectors::read("example_field_products", 2, 1) {
+        let block = |field: &[u8]| -> [u8; 16] { field.try_into().unwrap() };
+        let actual = reference::field_product(block(&vector.inputs[0]), block(&vector.inputs[1]));
+        count.agree(&vector.name, actual == block(&vector.outputs[0]));
+    }
+    count.finish();
+}
+
+#[test]
+fn noise() {
+    let mut count = Count::new("vectors, noise");
+    for vector in vectors::read("example_noise", 1, 1) {
+        let actual = reference::noise_value(vectors::number(&vector.inputs[0]) as u8);
+        count.agree(&vector.name, actual == vectors::number(&vector.outputs[0]) as i32);
+    }
+    count.finish();
+}
+
+#[test]
+fn remainders() {
+    let mut count = Count::new("vectors, centred values and remainders");
+    for vector in vectors::read("example_remainders", 1, 3) {
+        let centred = reference::centred(vectors::number(&vector.inputs[0]));
+        let remainder = reference::remainder_by_5(centred);
+        let actual = [centred, remainder, (centred - remainder) / 5];
+        let expected: Vec<i32> = vector.outputs.iter().map(|field| vectors::number(field) as i32).collect();
+        count.agree(&vector.name, actual[..] == expected[..]);
+    }
+    count.finish();
+}

@@ -1,0 +1,84 @@
+#!/usr/bin/env bash
+# Runs the archive under valgrind's memcheck.
+#   1. On all vectors: no read or write outside a buffer, no use of an undefined byte, no leak. Fails on any.
+#   2. With secrets marked undefined: lists by function each branch and each address that hangs on a secret, and fails where
+#      tests/memcheck/allowed.txt does not list it with its reason. Memcheck sees the path of one run: this is a test, not a proof.
+# usage: tests/memcheck.sh [CALL..]     calls for part 2: seal open keygen encapsulate decapsulate; without any: seal open
+#        needs Debian's valgrind and gcc; POLKA_VECTORS names the folder of the vectors
+set -euo pipefail
+
+top=$(cd "$(dirname "$0")/.." && pwd)
+for tool in valgrind "${CC:-cc}"; do
+    if ! command -v "$tool" >/dev/null; then
+        echo "missing: $tool (apt-get install valgrind gcc)"
+        exit 1
+    fi
+done
+. "$top/tests/archive.sh"
+. "$top/tests/vectors.sh"
+room=$(mktemp -d)
+trap 'rm -rf "$room"' EXIT
+wrong=0
+
+for driver in vectors secrets; do
+    ${CC:-cc} -std=c11 -g -O1 -Wall -Wextra -Werror -I "$top/include" "$top/tests/memcheck/$driver.c" "$archive" -o "$room/$driver"
+done
+
+echo "memcheck on vectors"
+if valgrind --quiet --error-exitcode=9 --leak-check=full --show-leak-kinds=all --errors-for-leak-kinds=all \
+    "$room/vectors" "$vectors"; then
+    echo "ok: no invalid read or write, no leak"
+else
+    echo "WRONG: a mismatch or a report of memcheck above"
+    wrong=1
+fi
+
+# The list that -s prints at the end of a report, as lines "KIND FUNCTION SECRET PLACES TIMES ADDRESSES". Each error there is a line
+# "N errors in context ..", its kind, its frames, and the driver's function that marked the secret.
+by_function() {
+    awk '
+        function show() {
+            if (count == "") return
+            key = kind " " function_name " " secret
+            places[key]++
+            times[key] += count
+            addresses[key] = addresses[key] " " address
+            count = ""
+        }
+        /errors in context/ { show(); count = $2; kind = "other"; function_name = ""; secret = "?"; origin = 0; next }
+        /ERROR SUMMARY/ { show() }
+        count == "" { next }
+        /Conditional jump or move/ { kind = "branch" }
+        /Use of uninitialised value/ { kind = "address" }
+        /Uninitialised value was created/ { origin = 1 }
+        / at 0x/ && origin { secret = $4 }
+        / at 0x/ && !origin { function_name = $4; address = $3; sub(/:$/, "", address) }
+        END { for (key in places) print key, places[key], times[key] addresses[key] }
+    ' "$1" | sort
+}
+
+calls=("$@")
+[ "${#calls[@]}" -gt 0 ] || calls=(seal open)
+for call in "${calls[@]}"; do
+    echo "memcheck with the secrets of polka_$call marked undefined"
+    if ! valgrind -s --track-origins=yes --error-limit=no --num-callers=6 "$room/secrets" "$call" >"$room/stdout" 2>"$room/report"; then
+        cat "$room/stdout" "$room/report"
+        echo "WRONG: the driver failed"
+        wrong=1
+        continue
+    fi
+    by_function "$room/report" >"$room/list"
+    while read -r kind function secret places times addresses; do
+        if grep -qx "$call $kind $function $secret" "$top/tests/memcheck/allowed.txt"; then
+            verdict="listed"
+        else
+            verdict="WRONG, not listed"
+            wrong=1
+        fi
+        echo "$verdict: $call $kind $function $secret"
+        echo "    $places places, $times times, at $addresses"
+    done <"$room/list"
+    [ -s "$room/list" ] || echo "ok: no branch and no address hangs on a secret"
+done
+
+exit "$wrong"

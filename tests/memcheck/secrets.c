@@ -1,0 +1,164 @@
+/* Makes one call with its secrets marked undefined: memcheck then reports each branch and each address that hangs on them.
+ * The answer and the outputs are marked defined again when the call is over.
+ * usage: secrets seal|open|keygen|encapsulate|decapsulate   under valgrind */
+#include <stdio.h>
+#include <stdlib.h>
+#include <string.h>
+#include <valgrind/memcheck.h>
+
+#include "polka.h"
+
+static uint8_t stream[POLKA_UNIFORM_STREAM_LENGTH], noise_s[POLKA_KEY_NOISE_LENGTH], noise_e[POLKA_KEY_NOISE_LENGTH];
+static uint8_t public_key[POLKA_PUBLIC_KEY_LENGTH], secret_key[POLKA_SECRET_KEY_LENGTH];
+static uint8_t noise[POLKA_TRIPLE_NOISE_LENGTH], dummy_noise[POLKA_TRIPLE_NOISE_LENGTH];
+static uint8_t triple[POLKA_TRIPLE_LENGTH], dummy[POLKA_TRIPLE_LENGTH], triple_out[POLKA_TRIPLE_LENGTH];
+static uint8_t entry[POLKA_ENTRY_LENGTH], entry_out[POLKA_ENTRY_LENGTH];
+static uint8_t sealed[POLKA_SEALED_ENTRY_LENGTH], encapsulation[POLKA_ENCAPSULATION_LENGTH];
+
+/* Bytes from a fixed seed, so that each run is the same. */
+static void fill(uint8_t *bytes, size_t length) {
+    static uint64_t state = 88172645463325252u;
+    for (size_t i = 0; i < length; i++) {
+        state ^= state << 13;
+        state ^= state >> 7;
+        state ^= state << 17;
+        bytes[i] = (uint8_t)(state >> 24);
+    }
+}
+
+/* Codes 0, 1 and 2. */
+static void fill_codes(uint8_t *bytes, size_t length) {
+    fill(bytes, length);
+    for (size_t i = 0; i < length; i++) {
+        uint8_t three = bytes[i] & bytes[i] >> 1 & 0x55;
+        bytes[i] = (uint8_t)(bytes[i] & ~(three | three << 1));
+    }
+}
+
+static void must(int holds, const char *what) {
+    if (!holds) {
+        fprintf(stderr, "%s\n", what);
+        exit(2);
+    }
+}
+
+static uint32_t seal(void) {
+    return polka_seal(public_key, sizeof public_key, noise, sizeof noise, entry, sizeof entry, sealed, sizeof sealed);
+}
+
+static uint32_t open_sealed(void) {
+    return polka_open(secret_key, sizeof secret_key, sealed, sizeof sealed, dummy_noise, sizeof dummy_noise, entry_out, sizeof entry_out);
+}
+
+static uint32_t keygen(void) {
+    return polka_keygen(stream, sizeof stream, noise_s, sizeof noise_s, noise_e, sizeof noise_e, public_key, sizeof public_key, secret_key,
+                        sizeof secret_key);
+}
+
+static uint32_t encapsulate(void) {
+    return polka_encapsulate(public_key, sizeof public_key, triple, sizeof triple, encapsulation, sizeof encapsulation);
+}
+
+static uint32_t decapsulate(void) {
+    return polka_decapsulate(secret_key, sizeof secret_key, encapsulation, sizeof encapsulation, dummy, sizeof dummy, triple_out,
+                             sizeof triple_out);
+}
+
+/* One function a secret: memcheck names it as the place that a value comes from. None is inlined, or its name is lost. */
+#define NAMED __attribute__((noinline))
+
+static NAMED void secret_noise(void) {
+    VALGRIND_MAKE_MEM_UNDEFINED(noise, sizeof noise);
+}
+
+static NAMED void secret_entry(void) {
+    VALGRIND_MAKE_MEM_UNDEFINED(entry, sizeof entry);
+}
+
+/* s alone: a and b are public. */
+static NAMED void secret_key_s(void) {
+    VALGRIND_MAKE_MEM_UNDEFINED(secret_key + POLKA_PUBLIC_KEY_LENGTH, POLKA_SECRET_KEY_LENGTH - POLKA_PUBLIC_KEY_LENGTH);
+}
+
+static NAMED void secret_dummy(void) {
+    VALGRIND_MAKE_MEM_UNDEFINED(dummy_noise, sizeof dummy_noise);
+    VALGRIND_MAKE_MEM_UNDEFINED(dummy, sizeof dummy);
+}
+
+static NAMED void secret_key_noise(void) {
+    VALGRIND_MAKE_MEM_UNDEFINED(noise_s, sizeof noise_s);
+    VALGRIND_MAKE_MEM_UNDEFINED(noise_e, sizeof noise_e);
+}
+
+static NAMED void secret_triple(void) {
+    VALGRIND_MAKE_MEM_UNDEFINED(triple, sizeof triple);
+}
+
+static void all_defined(void) {
+    VALGRIND_MAKE_MEM_DEFINED(stream, sizeof stream);
+    VALGRIND_MAKE_MEM_DEFINED(noise_s, sizeof noise_s);
+    VALGRIND_MAKE_MEM_DEFINED(noise_e, sizeof noise_e);
+    VALGRIND_MAKE_MEM_DEFINED(public_key, sizeof public_key);
+    VALGRIND_MAKE_MEM_DEFINED(secret_key, sizeof secret_key);
+    VALGRIND_MAKE_MEM_DEFINED(noise, sizeof noise);
+    VALGRIND_MAKE_MEM_DEFINED(dummy_noise, sizeof dummy_noise);
+    VALGRIND_MAKE_MEM_DEFINED(triple, sizeof triple);
+    VALGRIND_MAKE_MEM_DEFINED(dummy, sizeof dummy);
+    VALGRIND_MAKE_MEM_DEFINED(triple_out, sizeof triple_out);
+    VALGRIND_MAKE_MEM_DEFINED(entry, sizeof entry);
+    VALGRIND_MAKE_MEM_DEFINED(entry_out, sizeof entry_out);
+    VALGRIND_MAKE_MEM_DEFINED(sealed, sizeof sealed);
+    VALGRIND_MAKE_MEM_DEFINED(encapsulation, sizeof encapsulation);
+}
+
+int main(int count, char **words) {
+    must(count == 2, "usage: secrets seal|open|keygen|encapsulate|decapsulate");
+    uint32_t answer;
+    do {
+        fill(stream, sizeof stream);
+        fill(noise_s, sizeof noise_s);
+        fill(noise_e, sizeof noise_e);
+        answer = keygen();
+    } while (answer == POLKA_NOT_INVERTIBLE);
+    must(answer == POLKA_DONE, "keygen");
+    fill(noise, sizeof noise);
+    fill(dummy_noise, sizeof dummy_noise);
+    fill_codes(triple, sizeof triple);
+    fill_codes(dummy, sizeof dummy);
+    fill(entry, sizeof entry);
+    must(seal() == POLKA_DONE && open_sealed() == POLKA_DONE && memcmp(entry, entry_out, sizeof entry) == 0, "seal and open");
+    must(encapsulate() == POLKA_DONE && decapsulate() == POLKA_DONE && memcmp(triple, triple_out, sizeof triple) == 0,
+         "encapsulate and decapsulate");
+    memset(entry_out, 0, sizeof entry_out);
+    memset(triple_out, 0, sizeof triple_out);
+
+    if (strcmp(words[1], "seal") == 0) {
+        secret_noise();
+        secret_entry();
+        answer = seal();
+    } else if (strcmp(words[1], "open") == 0) {
+        secret_key_s();
+        secret_dummy();
+        answer = open_sealed();
+    } else if (strcmp(words[1], "keygen") == 0) {
+        secret_key_noise();
+        answer = keygen();
+    } else if (strcmp(words[1], "encapsulate") == 0) {
+        secret_triple();
+        answer = encapsulate();
+    } else if (strcmp(words[1], "decapsulate") == 0) {
+        secret_key_s();
+        secret_dummy();
+        answer = decapsulate();
+    } else {
+        must(0, "no such call");
+    }
+    VALGRIND_MAKE_MEM_DEFINED(&answer, sizeof answer);
+    all_defined();
+    must(answer == POLKA_DONE, "the call under secrets marked undefined");
+    if (strcmp(words[1], "open") == 0) {
+        must(memcmp(entry, entry_out, sizeof entry) == 0, "another entry");
+    }
+    printf("%s: answer %u\n", words[1], (unsigned)answer);
+    return 0;
+}

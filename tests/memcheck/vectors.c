@@ -1,0 +1,178 @@
+/* Runs the library on vector files, every buffer in an allocation of its own with its exact length, so that memcheck sees a read or
+ * a write one byte outside. Prints counts, and fails on a mismatch.
+ * usage: vectors FOLDER */
+#include <stdio.h>
+#include <stdlib.h>
+#include <string.h>
+
+#include "polka.h"
+
+enum { MOST_FIELDS = 5 };
+
+struct buffer {
+    uint8_t *bytes;
+    size_t length;
+};
+
+static void fail(const char *what) {
+    fprintf(stderr, "%s\n", what);
+    exit(2);
+}
+
+static struct buffer new_buffer(size_t length) {
+    struct buffer made = {malloc(length), length};
+    if (made.bytes == NULL && length > 0) {
+        fail("no memory");
+    }
+    return made;
+}
+
+static uint32_t number(const uint8_t *bytes) {
+    return bytes[0] | (uint32_t)bytes[1] << 8 | (uint32_t)bytes[2] << 16 | (uint32_t)bytes[3] << 24;
+}
+
+/* A field is a 32-bit length and that many bytes. Answers 0 at the end of the file. */
+static int read_field(FILE *file, struct buffer *field) {
+    uint8_t length[4];
+    size_t got = fread(length, 1, 4, file);
+    if (got == 0) {
+        return 0;
+    }
+    if (got < 4) {
+        fail("a length that is cut off");
+    }
+    *field = new_buffer(number(length));
+    if (fread(field->bytes, 1, field->length, file) != field->length) {
+        fail("a field that is cut off");
+    }
+    return 1;
+}
+
+static struct buffer next_field(FILE *file) {
+    struct buffer field;
+    if (!read_field(file, &field)) {
+        fail("a case that is cut off");
+    }
+    return field;
+}
+
+static uint32_t next_number(FILE *file) {
+    struct buffer field = next_field(file);
+    if (field.length != 4) {
+        fail("a number that has not four bytes");
+    }
+    uint32_t value = number(field.bytes);
+    free(field.bytes);
+    return value;
+}
+
+#define LENT(buffer) (buffer).bytes, (buffer).length
+
+static uint32_t call_keygen(struct buffer *in, struct buffer *out) {
+    return polka_keygen(LENT(in[0]), LENT(in[1]), LENT(in[2]), LENT(out[0]), LENT(out[1]));
+}
+
+static uint32_t call_check_secret_key(struct buffer *in, struct buffer *out) {
+    (void)out;
+    return polka_check_secret_key(LENT(in[0]));
+}
+
+static uint32_t call_encapsulate(struct buffer *in, struct buffer *out) {
+    return polka_encapsulate(LENT(in[0]), LENT(in[1]), LENT(out[0]));
+}
+
+static uint32_t call_decapsulate(struct buffer *in, struct buffer *out) {
+    return polka_decapsulate(LENT(in[0]), LENT(in[1]), LENT(in[2]), LENT(out[0]));
+}
+
+static uint32_t call_seal(struct buffer *in, struct buffer *out) {
+    return polka_seal(LENT(in[0]), LENT(in[1]), LENT(in[2]), LENT(out[0]));
+}
+
+static uint32_t call_open(struct buffer *in, struct buffer *out) {
+    return polka_open(LENT(in[0]), LENT(in[1]), LENT(in[2]), LENT(out[0]));
+}
+
+static uint32_t call_shake256(struct buffer *in, struct buffer *out) {
+    polka_shake256(LENT(in[0]), LENT(out[0]));
+    return 0;
+}
+
+struct call {
+    const char *name;
+    int inputs, outputs;
+    uint32_t (*run)(struct buffer *in, struct buffer *out);
+};
+
+static const struct call calls[] = {
+    {"keygen", 3, 2, call_keygen},           {"check_secret_key", 1, 0, call_check_secret_key},
+    {"encapsulate", 2, 1, call_encapsulate}, {"decapsulate", 3, 1, call_decapsulate},
+    {"seal", 3, 1, call_seal},               {"open", 3, 1, call_open},
+    {"shake256", 1, 1, call_shake256},
+};
+
+static uint8_t pattern(size_t i) {
+    return (uint8_t)(i * 37 + 11);
+}
+
+/* Whether an output has the expected bytes, or under a refusal those it had before. */
+static int as_expected(struct buffer out, struct buffer expected, int refused) {
+    for (size_t i = 0; i < out.length; i++) {
+        if (out.bytes[i] != (refused ? pattern(i) : expected.bytes[i])) {
+            return 0;
+        }
+    }
+    return refused || out.length == expected.length;
+}
+
+static int run_case(FILE *file, const struct call *call, struct buffer first) {
+    struct buffer in[MOST_FIELDS] = {first}, out[MOST_FIELDS];
+    for (int i = 1; i < call->inputs; i++) {
+        in[i] = next_field(file);
+    }
+    for (int i = 0; i < call->outputs; i++) {
+        out[i] = new_buffer(next_number(file));
+        for (size_t j = 0; j < out[i].length; j++) {
+            out[i].bytes[j] = pattern(j);
+        }
+    }
+    uint32_t expected = next_number(file);
+    free(next_field(file).bytes);
+    uint32_t answer = call->run(in, out);
+    int right = answer == expected;
+    for (int i = 0; i < call->outputs; i++) {
+        struct buffer field = next_field(file);
+        right = right && as_expected(out[i], field, expected != POLKA_DONE);
+        free(field.bytes);
+        free(out[i].bytes);
+    }
+    for (int i = 0; i < call->inputs; i++) {
+        free(in[i].bytes);
+    }
+    return right;
+}
+
+int main(int count, char **words) {
+    if (count != 2) {
+        fail("usage: vectors FOLDER");
+    }
+    int wrong = 0;
+    for (size_t i = 0; i < sizeof calls / sizeof *calls; i++) {
+        char path[4096];
+        snprintf(path, sizeof path, "%s/%s.bin", words[1], calls[i].name);
+        FILE *file = fopen(path, "rb");
+        if (file == NULL) {
+            fail(path);
+        }
+        int cases = 0, mismatches = 0;
+        struct buffer first;
+        while (read_field(file, &first)) {
+            cases++;
+            mismatches += !run_case(file, &calls[i], first);
+        }
+        fclose(file);
+        printf("%s: %d cases, %d mismatches\n", calls[i].name, cases, mismatches);
+        wrong += mismatches + (cases == 0);
+    }
+    return wrong != 0;
+}
