@@ -14,7 +14,7 @@ use Rattle.gf128.proofs.TagLaws.{tag-one}
 use Rattle.gf128.proofs.Comparison.{equal-iff}
 use Rattle.derivation.specs.Triple.{tripleBytes}
 use Rattle.derivation.specs.Derivation.{keyMaterial, key0, key1, key2, keystream, bodyOf, tagOf, genuine?, entryOf, verifiedEntry}
-use Rattle.derivation.proofs.Extra.{shake256-byte}
+use Rattle.derivation.proofs.HashedBytes.{shake256-byte}
 
 module _ (r e1 e2 : List ℕ) where
   -- ---- keys and keystream

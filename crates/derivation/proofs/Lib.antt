@@ -1,5 +1,5 @@
 -- Laws of the definitions of specs/.
 pub mod Triples
 pub mod Laws
--- General laws on buffers and SHAKE256.
-pub mod Extra
+-- What SHAKE256 puts out.
+pub mod HashedBytes

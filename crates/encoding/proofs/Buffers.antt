@@ -1,7 +1,8 @@
 -- Laws of `putFront`, and of a buffer that is written part by part.
-use mathlib.Core.Path.{_≡_, sym, ap, _∙_}
-use mathlib.Core.List.{List, _++_, append-assoc, append-nil}
+use mathlib.Core.Path.{_≡_, refl, sym, ap, _∙_}
+use mathlib.Core.List.{List, [], _++_, append-assoc, append-nil}
 use Prim.Native.Nat.{ℕ, _+_, _<_, _≤_}
+use native.Mathlib.Nat.{zero-add}
 use native.Mathlib.Omega.{arith}
 use lib.ListN.{length, take, drop, length-drop, drop-of-length-le}
 use lib.Seq.{take-at, drop-at, drop-drop, length-take-le}
@@ -40,6 +41,26 @@ put-next front new old out a k {e} o f l m h =
     let part : putFront new (take k (drop a out)) ≡ new = put-exact new (take k (drop a out)) (l ∙ sym room) in
     let rest : drop k (drop a out) ≡ drop e old = ap (drop k) behind ∙ drop-drop k a old ∙ ap (λ (j : ℕ). drop j old) m in
     rw (before, part, rest) (sym (append-assoc front new (drop e old)))
+
+-- the part lent is p afterwards: what `putFront` makes of it ..
+pub put-part : (front new old out : List ℕ) (a k : ℕ) {e : ℕ} {p : List ℕ} → out ≡ front ++ drop a old → length front ≡ a → length new ≡ k → a + k ≡ e
+    → e ≤ length old → p ≡ putFront new (take k (drop a out))
+    → take a out ++ (p ++ drop k (drop a out)) ≡ (front ++ new) ++ drop e old
+put-part front new old out a k o f l m h p =
+    ap (λ (x : List ℕ). take a out ++ (x ++ drop k (drop a out))) p ∙ put-next front new old out a k o f l m h
+
+-- .. and nothing was written before
+pub put-first : (new old : List ℕ) (k : ℕ) {p : List ℕ} → length new ≡ k → k ≤ length old → p ≡ putFront new (take k old) → p ++ drop k old ≡ new ++ drop k old
+put-first new old k l h p = put-part [] new old old 0 k refl refl l (zero-add k) h p
+
+-- the part lent is `new` afterwards
+pub put-plain : (front new old out : List ℕ) (a k : ℕ) {e : ℕ} {p : List ℕ} → out ≡ front ++ drop a old → length front ≡ a → a + k ≡ e → p ≡ new
+    → take a out ++ (p ++ drop k (drop a out)) ≡ (front ++ new) ++ drop e old
+put-plain front new old out a k {e} o f m q =
+    let before : take a out ≡ front = ap (take a) o ∙ take-at front (drop a old) a f in
+    let behind : drop a out ≡ drop a old = ap (drop a) o ∙ drop-at front (drop a old) a f in
+    let rest : drop k (drop a out) ≡ drop e old = ap (drop k) behind ∙ drop-drop k a old ∙ ap (λ (j : ℕ). drop j old) m in
+    rw (before, q, rest) (sym (append-assoc front new (drop e old)))
 
 -- all of it is written
 pub put-all : (front old : List ℕ) (k : ℕ) → length old ≤ k → front ++ drop k old ≡ front

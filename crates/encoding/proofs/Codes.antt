@@ -21,7 +21,7 @@ use Rattle.algebra.proofs.Numbers.{below-by}
 use Rattle.ring.specs.Ring.{q, n}
 use Rattle.ring.specs.Centred.{Ternary}
 use Rattle.ring.proofs.Centring.{centred-size}
-use Rattle.encoding.proofs.Extra.{passed-rest}
+use Rattle.lists.proofs.Scan.{passed-rest}
 use Rattle.encoding.proofs.Digits.{digit-missing, digit-take}
 use Rattle.encoding.specs.Codes.{codeAt, coefficientOf, codeOf, codesOf, firstInvalidCode, ternaryOf, packedAt, ternaryBytes}
 

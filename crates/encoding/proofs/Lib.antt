@@ -6,5 +6,3 @@ pub mod Headers
 pub mod Buffers
 -- Decoders and encoders undo each other.
 pub mod RoundTrips
--- General laws on tables and loops that fill them.
-pub mod Extra

@@ -13,7 +13,7 @@ use Rattle.lists.specs.Table.{table, tableFrom}
 use Rattle.lists.proofs.Maps.{cons}
 use Rattle.gf128.specs.Bytes.{number, bytes}
 use Rattle.gf128.specs.Words.{eightAt}
-use Rattle.gf128.proofs.ByteLists.{Small, part-getD}
+use Rattle.lists.proofs.ByteLists.{Small, part-getD}
 
 part-eight : (i : ℕ) (a : List ℕ) → i + 8 ≤ length a → take 8 (drop i a) ≡ eightAt a i
 unfolding table tableFrom

@@ -11,10 +11,10 @@ use Rattle.lists.specs.Table.{zeros}
 use Rattle.lists.proofs.Maps.{cons, length-zipWith, getD-zipWith}
 use Rattle.gf128.specs.Field.{times}
 use Rattle.gf128.specs.Bytes.{Block, number, bytes, sum, product}
-use Rattle.gf128.proofs.Xor.{xor-assoc, xor-twice}
+use Rattle.lists.proofs.Xor.{xor-assoc, xor-twice}
 use Rattle.gf128.proofs.Horner.{times-lt}
 use Rattle.gf128.proofs.NumberLaws.{times-xor, times-comm, times-assoc, times-zero, times-one}
-use Rattle.gf128.proofs.ByteLists.{Small, small-take, small-drop, small-zeros, small-xor}
+use Rattle.lists.proofs.ByteLists.{Small, small-take, small-drop, small-zeros, small-xor}
 use Rattle.gf128.proofs.Digits.{number-lt, length-bytes, small-bytes, number-bytes, bytes-number, number-xor}
 
 -- ---- blocks and numbers

@@ -8,7 +8,7 @@ use lib.Pow.{shr-shr, shr-lt, split, pow-pos}
 use Rattle.lists.specs.Bits.{bit}
 use Rattle.gf128.specs.Field.{modulus, carrylessProduct, remainder, times}
 use Rattle.gf128.specs.Words.{timesX}
-use Rattle.gf128.proofs.Xor.{xor-double, xor-right, bit-le}
+use Rattle.lists.proofs.Xor.{xor-double, xor-right, bit-le}
 use Rattle.gf128.proofs.TwoWords.{two-words-lt, timesX-words, carry-fits, low-word-lt}
 
 -- a × b for b of degree below n: a × (b0 + x × b′) = x × (a × b′) + b0 × a

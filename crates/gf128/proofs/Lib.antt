@@ -1,6 +1,3 @@
--- Laws of xor and of lists of bytes.
-pub mod Xor
-pub mod ByteLists
 -- The product on two words and by Horner's rule, and the field's laws on numbers.
 pub mod TwoWords
 pub mod Horner

@@ -8,7 +8,7 @@ use lib.Bits.{bitXor, xor-comm, xor-shr}
 use lib.Pow.{pow-pos}
 use Rattle.gf128.specs.Field.{modulus, carrylessProduct, remainder, times}
 use Rattle.gf128.specs.Words.{timesX}
-use Rattle.gf128.proofs.Xor.{xor-half, xor-odd, xor-assoc, xor-swap, xor-double, same-halves, bit-through, bits-times}
+use Rattle.lists.proofs.Xor.{xor-half, xor-odd, xor-assoc, xor-swap, xor-double, same-halves, bit-through, bits-times}
 use Rattle.gf128.proofs.Horner.{horner, times-horner, timesX-lt, horner-lt, times-lt}
 
 bit-lt : (a : ℕ) → a % 2 < 2

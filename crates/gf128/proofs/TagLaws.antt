@@ -11,7 +11,7 @@ use Rattle.lists.specs.Table.{zeros}
 use Rattle.gf128.specs.Field.{times}
 use Rattle.gf128.specs.Bytes.{Block, number, bytes, sum, product, block, folded, tag}
 use Rattle.gf128.specs.Powers.{power, weighted}
-use Rattle.gf128.proofs.ByteLists.{Small, small-drop}
+use Rattle.lists.proofs.ByteLists.{Small, small-drop}
 use Rattle.gf128.proofs.Digits.{number-bytes}
 use Rattle.gf128.proofs.FieldLaws.{bytes-block, part-block, zeros-block, one-block, sum-block, product-block, number-product, number-sum, sum-zeros, sum-comm, sum-assoc, product-comm, product-assoc, product-sum, product-one, product-zeros}
 

@@ -4,6 +4,9 @@ pub mod Tables
 pub mod Zeros
 pub mod Parts
 pub mod Fill
+pub mod TableFill
 pub mod Scan
 pub mod Finite
 pub mod Bits
+pub mod Xor
+pub mod ByteLists

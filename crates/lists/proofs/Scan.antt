@@ -2,14 +2,14 @@
 use mathlib.Core.Path.{_≡_, refl, sym, ap, _∙_}
 use mathlib.Core.Bool.{Bool, true, false, cond, false≢true}
 use mathlib.Core.List.{List, [], _∷_}
-use Prim.Native.Nat.{ℕ, zero, suc, _+_, _<_, _≤_}
+use Prim.Native.Nat.{ℕ, zero, suc, _+_, _-_, _<_, _≤_}
 use native.Mathlib.Nat.{zero-add}
 use native.Mathlib.Numerals.{add-one}
 use native.Mathlib.Omega.{arith}
 use native.Mathlib.Decide.{decLe}
 use lib.Dec.{leb, eqb}
-use lib.ListN.{length, getD, drop}
-use lib.Seq.{drop-cons, drop-length}
+use lib.ListN.{length, getD, drop, length-drop}
+use lib.Seq.{drop-cons, drop-length, getD-drop}
 use borrow.Author.Tests.{le-leb, lt-leb, eq-eqb, ne-eqb}
 use Rattle.lists.specs.First.{firstFailing}
 
@@ -84,6 +84,15 @@ first-fails good (x ∷ xs) h = by (good x) refl h (first-fails good xs)
         → good (getD (x ∷ xs) (cond b (suc (firstFailing good xs)) 0) 0) ≡ false
     by true p h rest = rest (omega arith)
     by false p h rest = p
+
+-- the first i entries pass, and so do the others
+pub passed-rest : {good : ℕ → Bool} {xs : List ℕ} {i : ℕ} → Passed good xs i → ((k : ℕ) → i ≤ k → k < length xs → good (getD xs k 0) ≡ true)
+    → firstFailing good xs ≡ length xs
+passed-rest {good} {xs} {i} p h =
+    let size : length (drop i xs) ≡ length xs - i = length-drop i xs in
+    let rest : firstFailing good (drop i xs) ≡ length (drop i xs) =
+    first-none good (drop i xs) (λ k l. rw (getD-drop i xs k 0) (h (i + k) (omega arith) (omega arith))) in
+    omega (arith, p .left, p .within, rest)
 
 -- ---- a scan of every entry that does not stop: whether the first i have passed
 

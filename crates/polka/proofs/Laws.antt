@@ -1,11 +1,10 @@
 -- What the calls cite: lengths that fit, a key as it was prepared, and what an outcome makes of answer and output.
 use mathlib.Core.Path.{_≡_, refl, sym, ap, ap₂, _∙_}
 use mathlib.Core.Bool.{Bool, true, false, cond, _&&_, false≢true}
-use mathlib.Core.List.{List, _++_, append-assoc}
-use Prim.Native.Nat.{ℕ, _+_}
+use mathlib.Core.List.{List}
+use Prim.Native.Nat.{ℕ}
 use lib.Dec.{eqb}
-use lib.ListN.{length, take, drop}
-use lib.Seq.{take-at, drop-at, drop-drop}
+use lib.ListN.{length}
 use borrow.Author.Tests.{eqb-true}
 use Rattle.lists.specs.Table.{zeros}
 use Rattle.ntt.specs.Spectrum.{spectrumOf, coefficientsOf}
@@ -130,16 +129,6 @@ entry-written Done Done (found t) body tag old = by (genuine? (t .r) (t .e1) (t 
         ≡ onDone (unless g TagMismatch Done) (entryOf (t .r) (t .e1) (t .e2) body) old
     by true = refl
     by false = refl
-
--- ---- the part `&mut out[a..a + k]` is now `new`, and `front` was written before
-
-pub put-block : (front new old out : List ℕ) (a k : ℕ) {e : ℕ} {p : List ℕ} → out ≡ front ++ drop a old → length front ≡ a → a + k ≡ e → p ≡ new
-    → take a out ++ (p ++ drop k (drop a out)) ≡ (front ++ new) ++ drop e old
-put-block front new old out a k {e} o f m q =
-    let before : take a out ≡ front = ap (take a) o ∙ take-at front (drop a old) a f in
-    let behind : drop a out ≡ drop a old = ap (drop a) o ∙ drop-at front (drop a old) a f in
-    let rest : drop k (drop a out) ≡ drop e old = ap (drop k) behind ∙ drop-drop k a old ∙ ap (λ (j : ℕ). drop j old) m in
-    rw (before, q, rest) (sym (append-assoc front new (drop e old)))
 
 -- ---- demand 3, of what a call said and wrote
 

@@ -119,14 +119,12 @@ fn find_triple(key: &[u8], encapsulation: &[u8], dummy: &[u8]) -> Decapsulated
     let codes = records::check_triple(dummy);
     let t = keys::read_triple(dummy);
     let d = scheme::decapsulate(prepared, t, Encapsulation { c1, c2 }, &forward, &backward);
-    let triple = d.triple;
+    let answered = d.triple;
     let found = records::unless(d.found, Refusal::DecapsulationFailure);
+    let opening = records::and_then(words, records::and_then(codes, found));
     Decapsulated {
-        answer: records::and_then(
-            checked,
-            records::and_then(words, records::and_then(codes, found)),
-        ),
-        triple,
+        answer: records::and_then(checked, opening),
+        triple: answered,
     }
 }
 
@@ -284,11 +282,9 @@ fn recover_entry(key: &[u8], sealed: &[u8], noise: &[u8]) -> Opened
     let v = verify_entry(t, sealed);
     let genuine = records::unless(v.genuine, Refusal::TagMismatch);
     let entry = v.entry;
+    let rest = records::and_then(record, records::and_then(found, genuine));
     Opened {
-        answer: records::and_then(
-            checked,
-            records::and_then(record, records::and_then(found, genuine)),
-        ),
+        answer: records::and_then(checked, rest),
         entry,
     }
 }

@@ -8,7 +8,7 @@ use Rattle.encoding.proofs.Codes.{length-ternaryBytes}
 use Rattle.encoding.proofs.Buffers.{put-front, put-short}
 use Rattle.derivation.specs.Triple.{tripleBytes}
 use Rattle.derivation.proofs.Triples.{length-tripleBytes}
-use Rattle.derivation.proofs.Extra.{put-part}
+use Rattle.encoding.proofs.Buffers.{put-part}
 use borrow.Author.Needs.{needs}
 use Rattle.derivation.proofs.encode_triple.Statement.{statement}
 use Rattle.derivation.proofs.encode_triple.Tie as tie

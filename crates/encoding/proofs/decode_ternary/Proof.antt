@@ -7,7 +7,7 @@ use Rattle.lists.specs.Table.{table}
 use Rattle.lists.proofs.Fill.{ZeroFilled}
 use Rattle.ring.specs.Ring.{n}
 use Rattle.encoding.specs.Codes.{codeAt, coefficientOf, ternaryOf}
-use Rattle.encoding.proofs.Extra.{zero-filled-start, zero-filled-next, zero-filled-table}
+use Rattle.lists.proofs.TableFill.{zero-filled-start, zero-filled-next, zero-filled-table}
 use Rattle.encoding.proofs.Digits.{digit-first, digit-in, digit-missing}
 use borrow.Author.Needs.{needs}
 use Rattle.encoding.proofs.decode_ternary.Statement.{statement}

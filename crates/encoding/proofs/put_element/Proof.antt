@@ -9,7 +9,7 @@ use Rattle.lists.proofs.Tables.{length-table}
 use Rattle.lists.proofs.Fill.{Filled, filled-none, filled-all}
 use Rattle.encoding.specs.Digits.{digitAt}
 use Rattle.encoding.specs.Words.{elementBytes}
-use Rattle.encoding.proofs.Extra.{filled-next}
+use Rattle.lists.proofs.TableFill.{filled-next}
 use Rattle.encoding.proofs.Digits.{digit-first, digit-in}
 use borrow.Author.Needs.{needs}
 use Rattle.encoding.proofs.put_element.Statement.{statement}

@@ -10,7 +10,7 @@ use Rattle.records.specs.declared.Answer.{Answer}
 use Rattle.records.specs.Answers.{onDone}
 use Rattle.records.specs.Records.{recordBytes}
 use Rattle.records.proofs.Writing.{length-recordBytes}
-use Rattle.polka.proofs.Laws.{put-block}
+use Rattle.encoding.proofs.Buffers.{put-plain}
 use borrow.Author.Needs.{needs}
 use Rattle.polka.proofs.write_sealed.Statement.{statement}
 use Rattle.polka.proofs.write_sealed.Tie as tie
@@ -63,8 +63,8 @@ returns c =
     let sf : length front ≡ 4101 = length-recordBytes 80 76 71 (s .c1) (s .c2) in
     let sb : length (front ++ s .body) ≡ 4117 = omega (arith, length-append front (s .body)) in
     let first = c .before .before .before .before .before .before .before .before .before .before .write-record .ensures in
-    let second = put-block front (s .body) old _ 4101 16 first sf refl (c .before .before .before .before .before .before .write-block .ensures) in
-    put-block (front ++ s .body) (s .tag) old _ 4117 16 second sb refl (c .before .before .write-block2 .ensures)
+    let second = put-plain front (s .body) old _ 4101 16 first sf refl (c .before .before .before .before .before .before .write-block .ensures) in
+    put-plain (front ++ s .body) (s .tag) old _ 4117 16 second sb refl (c .before .before .write-block2 .ensures)
     ∙ put-all (front ++ s .body ++ s .tag) old 4133 (omega arith)
     ∙ sym (ap (λ (a : Answer). onDone a (front ++ s .body ++ s .tag) old) (told .enum-told .given .1))
 

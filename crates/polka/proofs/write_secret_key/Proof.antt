@@ -9,7 +9,8 @@ use Rattle.encoding.specs.Codes.{ternaryBytes}
 use Rattle.encoding.proofs.Codes.{length-ternaryBytes}
 use Rattle.encoding.proofs.Buffers.{put-all}
 use Rattle.records.specs.Records.{recordBytes}
-use Rattle.records.proofs.Writing.{put-part, length-recordBytes}
+use Rattle.encoding.proofs.Buffers.{put-part}
+use Rattle.records.proofs.Writing.{length-recordBytes}
 use borrow.Author.Needs.{needs}
 use Rattle.polka.proofs.write_secret_key.Statement.{statement}
 use Rattle.polka.proofs.write_secret_key.Tie as tie

@@ -7,7 +7,7 @@ use Rattle.encoding.specs.Words.{elementBytes}
 use Rattle.encoding.proofs.Words.{length-elementBytes}
 use Rattle.encoding.proofs.Buffers.{put-all}
 use Rattle.records.specs.Records.{encapsulationBytes}
-use Rattle.records.proofs.Writing.{put-first, put-part}
+use Rattle.encoding.proofs.Buffers.{put-first, put-part}
 use borrow.Author.Needs.{needs}
 use Rattle.records.proofs.write_encapsulation.Statement.{statement}
 use Rattle.records.proofs.write_encapsulation.Tie as tie

@@ -9,7 +9,7 @@ use Rattle.encoding.specs.Words.{elementBytes}
 use Rattle.encoding.proofs.Words.{length-elementBytes}
 use Rattle.encoding.proofs.Headers.{length-header}
 use Rattle.records.specs.Records.{recordBytes}
-use Rattle.records.proofs.Writing.{put-first, put-part}
+use Rattle.encoding.proofs.Buffers.{put-first, put-part}
 use borrow.Author.Needs.{needs}
 use Rattle.records.proofs.write_record.Statement.{statement}
 use Rattle.records.proofs.write_record.Tie as tie

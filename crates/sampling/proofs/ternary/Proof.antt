@@ -7,7 +7,7 @@ use Rattle.lists.specs.Table.{table}
 use Rattle.lists.proofs.Fill.{ZeroFilled}
 use Rattle.ring.specs.Ring.{n}
 use Rattle.encoding.proofs.Digits.{digit-first, digit-in, digit-missing}
-use Rattle.encoding.proofs.Extra.{zero-filled-start, zero-filled-next, zero-filled-table}
+use Rattle.lists.proofs.TableFill.{zero-filled-start, zero-filled-next, zero-filled-table}
 use Rattle.sampling.specs.Noise.{noiseCoefficient, nibbleAt, ternaryNoise}
 use Rattle.sampling.proofs.NoiseLaws.{noise-none}
 use borrow.Author.Needs.{needs}

@@ -7,12 +7,10 @@ use Prim.Native.Nat.{ℕ, _+_, _-_, _<_, _≤_}
 use native.Mathlib.Omega.{arith}
 use lib.ListN.{length, getD, drop, set, length-drop}
 use lib.Seq.{getD-drop}
 use Rattle.lists.specs.Table.{table, zeros}
 use Rattle.lists.proofs.Tables.{length-table, getD-table, table-append}
-use Rattle.lists.specs.First.{firstFailing}
 use Rattle.lists.proofs.Zeros.{zeros-table}
-use Rattle.lists.proofs.Scan.{Passed, first-none}
 use Rattle.lists.proofs.Fill.{Filled, filled-more-by, ZeroFilled, zero-filled-none, zero-filled-more, zero-filled-all}
 
 -- a table whose rule gives 0 from m on
 pub table-zeros : (m n : ℕ) (f : ℕ → ℕ) → m ≤ n → ((k : ℕ) → m ≤ k → k < n → f k ≡ 0) → table m f ++ zeros (n - m) ≡ table n f
@@ -42,14 +40,3 @@ pub zero-filled-table : {n m : ℕ} (g : ℕ → ℕ) {out : List ℕ} {i : ℕ}
     → ((k : ℕ) → m ≤ k → k < n → g k ≡ 0) → out ≡ table n g
 zero-filled-table {n} {m} g f h l z =
     zero-filled-all f (rw (length-table m g) h) ∙ rw (length-table m g) (table-zeros m n g l z)
-
--- ---- scans
-
--- the first i entries pass, and so do the others
-pub passed-rest : {good : ℕ → Bool} {xs : List ℕ} {i : ℕ} → Passed good xs i → ((k : ℕ) → i ≤ k → k < length xs → good (getD xs k 0) ≡ true)
-    → firstFailing good xs ≡ length xs
-passed-rest {good} {xs} {i} p h =
-    let size : length (drop i xs) ≡ length xs - i = length-drop i xs in
-    let rest : firstFailing good (drop i xs) ≡ length (drop i xs) =
-    first-none good (drop i xs) (λ k l. rw (getD-drop i xs k 0) (h (i + k) (omega arith) (omega arith))) in
-    omega (arith, p .left, p .within, rest)
