@@ -1,4 +1,3 @@
--- Laws of fields, of answers and of cases.
-pub mod FieldLaws
-pub mod Answers
+-- Laws of answers and of cases.
+pub mod Choices
 pub mod Judging

@@ -1,6 +1,5 @@
 -- When the samples of a case of key making agree with its keys.
 use mathlib.Core.Path.{_≡_}
-use mathlib.Core.Bool.{Bool, true}
 use mathlib.Core.Logic.{_⊎_}
 use mathlib.Core.List.{List}
 use Prim.Native.Nat.{ℕ, _<_}
@@ -10,13 +9,9 @@ use Rattle.encoding.specs.Words.{elementBytes}
 use Rattle.encoding.specs.Codes.{ternaryBytes}
 use Rattle.sampling.specs.Noise.{ternaryNoise}
 use Rattle.sampling.specs.Stream.{taken, uniformElement}
+use Rattle.vectors.specs.Fields.{word32, field}
 use Rattle.sampling_vectors.specs.declared.Verdict.{Verdict}
 use Rattle.sampling_vectors.specs.declared.Verdict.the-variants.{Agreed, Differed, PassedOver}
-use Rattle.sampling_vectors.specs.Fields.{wordOf, fieldAt}
-
--- true exactly when P holds
-abbrev pub Tells : Bool → Type 0 → Type 0
-Tells r P = (r ≡ true → P) × (P → r ≡ true)
 
 -- the stream gives the a of a public key, which stands behind the header
 abbrev pub ElementAgrees : List ℕ → List ℕ → Type 0
@@ -47,9 +42,9 @@ Fitting stream noise = (length stream ≡ 2688) × (length noise ≡ 512)
 -- a case is judged by its fields where the first two fit
 abbrev pub Judged : List ℕ → Verdict → Type 0
 Judged text Agreed =
-    Fitting (fieldAt 0 text) (fieldAt 1 text)
-    × CaseAgrees (wordOf (fieldAt 5 text)) (fieldAt 0 text) (fieldAt 1 text) (fieldAt 7 text) (fieldAt 8 text)
+    Fitting (field 0 text) (field 1 text)
+    × CaseAgrees (word32 (field 5 text)) (field 0 text) (field 1 text) (field 7 text) (field 8 text)
 Judged text Differed =
-    Fitting (fieldAt 0 text) (fieldAt 1 text)
-    × (CaseAgrees (wordOf (fieldAt 5 text)) (fieldAt 0 text) (fieldAt 1 text) (fieldAt 7 text) (fieldAt 8 text) → ⊥)
-Judged text PassedOver = Fitting (fieldAt 0 text) (fieldAt 1 text) → ⊥
+    Fitting (field 0 text) (field 1 text)
+    × (CaseAgrees (word32 (field 5 text)) (field 0 text) (field 1 text) (field 7 text) (field 8 text) → ⊥)
+Judged text PassedOver = Fitting (field 0 text) (field 1 text) → ⊥

@@ -2,66 +2,14 @@
 // many of the cases of key making on standard input the samples agree with the keys.
 // A case has nine fields: the stream, the noise of s and of e, the lengths of both keys, the number, an empty field, and both keys.
 ghost use mathlib.Core.Path.{_≡_};
-ghost use mathlib.Core.List.{[], _∷_};
-ghost use Prim.Native.Nat.{_%_, _-_, _≤_, _<_};
+ghost use Prim.Native.Nat.{_<_};
 ghost use lib.ListN.{length};
 ghost use Rattle.sampling.specs.Noise.{noiseCoefficient};
 ghost use Rattle.sampling.specs.Stream.{taken};
-ghost use Rattle.sampling_vectors.specs.Fields.{wordOf, fieldOf, behindField, behind, fieldAt};
-ghost use Rattle.sampling_vectors.specs.Cases.{Tells, ElementAgrees, NoiseAgrees, KeysAgree, CaseAgrees, Fitting, Judged};
+ghost use Rattle.vectors.specs.Answers.{Tells};
+ghost use Rattle.sampling_vectors.specs.Cases.{ElementAgrees, NoiseAgrees, KeysAgree, CaseAgrees, Fitting, Judged};
 use libc::STDIN_FILENO;
 use libc::STDOUT_FILENO;
-
-// ---- fields
-
-fn join(b0: u8, b1: u8, b2: u8, b3: u8) -> u32
-    ensures { λ r. ⌜ r ≡ wordOf (b0 ∷ b1 ∷ b2 ∷ b3 ∷ []) ⌝ }
-{
-    b0 as u32 + 256 * (b1 as u32) + 65536 * (b2 as u32) + 16777216 * (b3 as u32)
-}
-
-fn word(text: &[u8]) -> u32
-    ensures { λ r. ⌜ r ≡ wordOf (now (text .entry)) ⌝ }
-{
-    let b0 = encoding::byte_at(text, 0);
-    let b1 = encoding::byte_at(text, 1);
-    let b2 = encoding::byte_at(text, 2);
-    let b3 = encoding::byte_at(text, 3);
-    join(b0, b1, b2, b3)
-}
-
-// The bytes of the first field, as far as they are there.
-fn field(text: &[u8]) -> &[u8]
-    ensures { λ r. ⌜ now r ≡ fieldOf (now (text .entry)) ⌝ }
-{
-    let start = encoding::lesser(4, text.len());
-    let end = encoding::lesser(4 + word(text) as usize, text.len());
-    &text[start..end]
-}
-
-fn behind_field(text: &[u8]) -> &[u8]
-    ensures { λ r. ⌜ now r ≡ behindField (now (text .entry)) ⌝ }
-{
-    let end = encoding::lesser(4 + word(text) as usize, text.len());
-    &text[end..]
-}
-
-// What stands behind k fields.
-fn behind(text: &[u8], k: usize) -> &[u8]
-    ensures { λ r. ⌜ now r ≡ behind k (now (text .entry)) ⌝ }
-{
-    if k == 0 {
-        return text;
-    }
-    behind(behind_field(text), k - 1)
-}
-
-// Field k, counted from 0.
-fn field_at(text: &[u8], k: usize) -> &[u8]
-    ensures { λ r. ⌜ now r ≡ fieldAt k (now (text .entry)) ⌝ }
-{
-    field(behind(text, k))
-}
 
 // ---- a case
 
@@ -73,7 +21,7 @@ fn element_agrees(stream: &[u8], public: &[u8]) -> bool
     let a = sample.value;
     let mut bytes = [0u8; 2048];
     encoding::encode_element(a, &mut bytes);
-    check::same(&bytes, &public[5..2053])
+    vectors::same(&bytes, &public[5..2053])
 }
 
 fn noise_agrees(noise: &[u8], secret: &[u8]) -> bool
@@ -83,7 +31,7 @@ fn noise_agrees(noise: &[u8], secret: &[u8]) -> bool
     let s = sampling::ternary(noise);
     let mut bytes = [0u8; 256];
     encoding::encode_ternary(s, &mut bytes);
-    check::same(&bytes, &secret[4101..4357])
+    vectors::same(&bytes, &secret[4101..4357])
 }
 
 // Whether both keys are there whole, and the samples are theirs.
@@ -141,26 +89,19 @@ enum Verdict {
 fn judge(text: &[u8]) -> Verdict
     ensures { λ r. ⌜ Judged (now (text .entry)) r ⌝ }
 {
-    let stream = field_at(text, 0);
-    let noise = field_at(text, 1);
+    let stream = vectors::field(text, 0);
+    let noise = vectors::field(text, 1);
     if !fitting(stream, noise) {
         return Verdict::PassedOver;
     }
-    let number = word(field_at(text, 5));
-    let public = field_at(text, 7);
-    let secret = field_at(text, 8);
+    let number = vectors::word(vectors::field(text, 5));
+    let public = vectors::field(text, 7);
+    let secret = vectors::field(text, 8);
     if agrees(number, stream, noise, public, secret) {
         Verdict::Agreed
     } else {
         Verdict::Differed
     }
-}
-
-// How many bytes stand behind the first case.
-fn left_behind(text: &[u8]) -> usize
-    ensures { λ r. ⌜ r ≤ length (now (text .entry)) - 1 ⌝ }
-{
-    behind(text, 9).len()
 }
 
 struct Counts {
@@ -188,7 +129,7 @@ fn judge_cases(text: &[u8]) -> Counts {
                 passed_over += 1;
             }
         }
-        left = left_behind(rest);
+        left -= vectors::start(rest, 9);
     }
     Counts {
         agreed: agreed,
@@ -248,18 +189,11 @@ fn print_taken(low: u8, high: u8) {
     print_count(count(&stream), b" taken\n");
 }
 
-// 1 MiB of zeros, which hold the cases.
-fn input_buffer() -> [u8; 1048576]
-    ensures { λ r. ⌜ 1048576 ≡ length r ⌝ }
-{
-    [0; 1048576]
-}
-
 fn main() {
     print_coefficients();
     print_taken(0, 232);
     print_taken(1, 232);
-    let mut input = input_buffer();
+    let mut input = vectors::file_buffer();
     let n = io::read_full(STDIN_FILENO, &mut input);
     print_counts(judge_cases(&input[..n]));
 }

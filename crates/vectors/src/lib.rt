@@ -182,8 +182,10 @@ fn print_malformed(at: usize) {
     io::write_all(STDOUT_FILENO, b"\n");
 }
 
-// Prints the line of a file.
-pub fn print_report(name: &[u8], r: Report) {
+// Prints the line of a file. What stands on the standard output no contract can say; what is lent stays as it was.
+pub fn print_report(name: &[u8], r: Report)
+    ensures { λ _. ⌜ now (name .exit) ≡ now (name .entry) ⌝ }
+{
     io::write_all(STDOUT_FILENO, name);
     io::write_all(STDOUT_FILENO, b": ");
     match r {

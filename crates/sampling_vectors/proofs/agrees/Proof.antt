@@ -2,7 +2,8 @@ use mathlib.Core.Path.{sym, _∙_}
 use native.Mathlib.Omega.{arith}
 use borrow.Author.Tests.{eqb-true, eq-eqb, ltb-true, lt-ltb}
 use Rattle.ring.specs.Ring.{n}
-use Rattle.sampling_vectors.proofs.Answers.{tells-no, tells-both, neither, tells-first, tells-second}
+use Rattle.vectors.proofs.Answers.{tells-no, tells-both}
+use Rattle.sampling_vectors.proofs.Choices.{neither, tells-first, tells-second}
 use borrow.Author.Needs.{needs}
 use Rattle.sampling_vectors.proofs.agrees.Statement.{statement}
 use Rattle.sampling_vectors.proofs.agrees.Tie as tie
@@ -19,13 +20,13 @@ count-requires-2 c κs = search needs
 returns : tie.Need-returns
 returns c =
     let e = c .before .match .keys1 in
-    tells-first (tells-both e (c .keys-agree .ensures)) (neither (λ p. absurd (omega (arith, p .0))) (λ p. absurd (omega (arith, p .0))))
+    tells-first (tells-both _ e (c .keys-agree .ensures)) (neither (λ p. absurd (omega (arith, p .0))) (λ p. absurd (omega (arith, p .0))))
 
 returns-2 : tie.Need-returns-2
 returns-2 c =
     let e = c .before .match .keys2 in
     let count = c .count .ensures in
-    let full = tells-both e ((λ t. sym count ∙ eqb-true _ n t), (λ f. eq-eqb _ n (count ∙ f))) in
+    let full = tells-both _ e ((λ t. sym count ∙ eqb-true _ n t), (λ f. eq-eqb _ n (count ∙ f))) in
     tells-second (λ p. absurd (omega (arith, p .0))) (tells-first full (λ p. absurd (omega (arith, p .0))))
 
 returns-3 : tie.Need-returns-3
@@ -33,7 +34,7 @@ returns-3 c =
     let e = c .before .match .keys3 in
     let count = c .count2 .ensures in
     tells-second (λ p. absurd (omega (arith, p .0)))
-    (tells-second (λ p. absurd (omega (arith, p .0))) (tells-both e ((λ t. rw (← count) (ltb-true _ n t)), (λ f. lt-ltb (c .count2 .result) n (rw count f)))))
+    (tells-second (λ p. absurd (omega (arith, p .0))) (tells-both _ e ((λ t. rw (← count) (ltb-true _ n t)), (λ f. lt-ltb (c .count2 .result) n (rw count f)))))
 
 returns-4 : tie.Need-returns-4
 returns-4 c =

@@ -1,5 +1,5 @@
 use borrow.Author.Tests.{not-true, not-false}
-use Rattle.sampling_vectors.proofs.Answers.{tells-no, told-no}
+use Rattle.vectors.proofs.Answers.{tells-no, told-no}
 use borrow.Author.Needs.{needs}
 use Rattle.sampling_vectors.proofs.keys_agree.Statement.{statement}
 use Rattle.sampling_vectors.proofs.keys_agree.Tie as tie
@@ -14,7 +14,7 @@ element-agrees-requires : tie.Need-element-agrees-requires
 element-agrees-requires c κs = search needs
 
 returns-3 : tie.Need-returns-3
-returns-3 c = tells-no (λ p. told-no (c .before .element-agrees .ensures) (not-true _ (c .if3 .taken)) (p .element))
+returns-3 c = tells-no (λ p. told-no _ (c .before .element-agrees .ensures) (not-true _ (c .if3 .taken)) (p .element))
 
 noise-agrees-requires : tie.Need-noise-agrees-requires
 noise-agrees-requires c κs = search needs

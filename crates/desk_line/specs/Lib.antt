@@ -1,0 +1,2 @@
+-- What the contracts of `desk_line` cite.
+pub mod Line

@@ -1,0 +1,2 @@
+-- That the examples hold.
+pub mod WorkedExamples

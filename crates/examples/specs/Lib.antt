@@ -1,0 +1,2 @@
+-- The starred worked examples.
+pub mod Examples

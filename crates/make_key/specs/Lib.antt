@@ -1,0 +1,2 @@
+-- What the contracts of `make_key` cite.
+pub mod MakeKey

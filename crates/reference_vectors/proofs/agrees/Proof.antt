@@ -1,0 +1,58 @@
+use Rattle.reference_vectors.specs.declared.Kind.the-variants.{CheckSecretKey, Keygen, Writing, Noise}
+use Rattle.reference_vectors.proofs.Agreement.{agrees-of}
+use borrow.Author.Needs.{needs}
+use Rattle.reference_vectors.proofs.agrees.Statement.{statement}
+use Rattle.reference_vectors.proofs.agrees.Tie as tie
+
+enum-told : tie.Need-enum-told
+enum-told c = search needs
+
+check-agrees-requires : tie.Need-check-agrees-requires
+check-agrees-requires c κs = search needs
+
+enum-told-2 : tie.Need-enum-told-2
+enum-told-2 c = search needs
+
+keygen-case-agrees-requires : tie.Need-keygen-case-agrees-requires
+keygen-case-agrees-requires c κs = search needs
+
+enum-known-kind : tie.Need-enum-known-kind
+enum-known-kind c = search needs
+
+call-case-agrees-requires : tie.Need-call-case-agrees-requires
+call-case-agrees-requires c κs = search needs
+
+enum-told-3 : tie.Need-enum-told-3
+enum-told-3 c = search needs
+
+noise-agrees-requires : tie.Need-noise-agrees-requires
+noise-agrees-requires c κs = search needs
+
+returns : tie.Need-returns
+returns c = agrees-of CheckSecretKey _ _ (c .before .enum-told .given .1) (c .check-agrees .ensures)
+
+returns-2 : tie.Need-returns-2
+returns-2 c = agrees-of Keygen _ _ (c .before .enum-told2 .given .1) (c .keygen-case-agrees .ensures)
+
+returns-3 : tie.Need-returns-3
+returns-3 c = agrees-of (Writing _) _ _ (c .before .before .kind .given .1) (c .call-case-agrees .ensures)
+
+returns-4 : tie.Need-returns-4
+returns-4 c = agrees-of Noise _ _ (c .before .enum-told3 .given .1) (c .noise-agrees .ensures)
+
+pub agrees-spec : {M : Type 1} → statement M
+agrees-spec =
+    tie.close
+    (tie.spec
+    enum-told
+    check-agrees-requires
+    enum-told-2
+    keygen-case-agrees-requires
+    enum-known-kind
+    call-case-agrees-requires
+    enum-told-3
+    noise-agrees-requires
+    returns
+    returns-2
+    returns-3
+    returns-4)

@@ -1,0 +1,56 @@
+use mathlib.Core.Path.{ap, subst, _∙_}
+use mathlib.Core.List.{List}
+use Prim.Native.Nat.{ℕ}
+use native.Mathlib.Omega.{arith}
+use denote.Ref.{now}
+use Rattle.vectors.specs.Answers.{Tells}
+use Rattle.reference_vectors.specs.Cases.{room, sizeField, CallAgrees}
+use Rattle.reference_vectors.proofs.Agreement.{filled-output}
+use borrow.Author.Needs.{needs}
+use Rattle.reference_vectors.proofs.call_case_agrees.Statement.{statement}
+use Rattle.reference_vectors.proofs.call_case_agrees.Tie as tie
+
+output-buffer-requires : tie.Need-output-buffer-requires
+output-buffer-requires c κs = search needs
+
+size-field-requires : tie.Need-size-field-requires
+size-field-requires c κs = search needs
+
+room-requires : tie.Need-room-requires
+room-requires c κs = search needs
+
+sub-call-agrees : tie.Need-sub-call-agrees
+sub-call-agrees c = search needs
+
+part-out-start : tie.Need-part-out-start
+part-out-start c = search needs
+
+part-out-end : tie.Need-part-out-end
+part-out-end c = search needs
+
+call-agrees-requires : tie.Need-call-agrees-requires
+call-agrees-requires c κs = search needs
+
+returns : tie.Need-returns
+returns c =
+    let sized = c .before .before .before in
+    let args = sized .before .before .before .before .args in
+    let place = sized .before .size-field .ensures .0 in
+    subst (λ (out : List ℕ). Tells (c .before .call-agrees .result) (CallAgrees (args .call) (now (args .text)) out))
+    (filled-output (sizeField (args .call)) (now (args .text)) _
+    (sized .room .ensures .0 ∙ ap (λ (k : ℕ). room k (now (args .text))) place)
+    (omega (arith, sized .room .ensures .1, sized .before .before .output-buffer .ensures)))
+    (c .before .call-agrees .ensures)
+
+pub call-case-agrees-spec : {M : Type 1} → statement M
+call-case-agrees-spec =
+    tie.close
+    (tie.spec
+    output-buffer-requires
+    size-field-requires
+    room-requires
+    sub-call-agrees
+    part-out-start
+    part-out-end
+    call-agrees-requires
+    returns)

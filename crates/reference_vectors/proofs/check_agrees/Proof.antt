@@ -1,0 +1,42 @@
+use mathlib.Core.Path.{ap, _∙_}
+use Rattle.records.specs.Answers.{number}
+use Rattle.calls.specs.Calls.{checkAnswer}
+use Rattle.vectors.specs.Fields.{word32}
+use Rattle.vectors.proofs.Answers.{tells-as, tells-equal}
+use borrow.Author.Needs.{needs}
+use Rattle.reference_vectors.proofs.check_agrees.Statement.{statement}
+use Rattle.reference_vectors.proofs.check_agrees.Tie as tie
+
+field-requires : tie.Need-field-requires
+field-requires c κs = search needs
+
+check-secret-key-requires : tie.Need-check-secret-key-requires
+check-secret-key-requires c κs = search needs
+
+number-requires : tie.Need-number-requires
+number-requires c κs = search needs
+
+field-requires-2 : tie.Need-field-requires-2
+field-requires-2 c κs = search needs
+
+word-requires : tie.Need-word-requires
+word-requires c κs = search needs
+
+returns : tie.Need-returns
+returns c =
+    let checked = c .before .before in
+    tells-as _
+    (checked .number .ensures ∙ ap number (checked .before .check-secret-key .ensures .0 ∙ ap checkAnswer (checked .before .before .field .ensures)))
+    (c .word .ensures ∙ ap word32 (c .before .field2 .ensures))
+    (tells-equal _ _)
+
+pub check-agrees-spec : {M : Type 1} → statement M
+check-agrees-spec =
+    tie.close
+    (tie.spec
+    field-requires
+    check-secret-key-requires
+    number-requires
+    field-requires-2
+    word-requires
+    returns)

@@ -1,0 +1,2 @@
+-- What the contracts of `seal_entry` cite.
+pub mod SealEntry

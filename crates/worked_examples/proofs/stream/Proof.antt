@@ -1,0 +1,59 @@
+use mathlib.Core.Path.{_≡_}
+use Prim.Native.Nat.{_-_}
+use lib.ListN.{length}
+use borrow.Author.Needs.{needs}
+use Rattle.worked_examples.proofs.stream.Statement.{statement}
+use Rattle.worked_examples.proofs.stream.Tie as tie
+
+abbrev Inv-loop : tie.InvT-loop
+Inv-loop words low high s₀ k₀ s k = length s ≡ 2688
+
+abbrev μ-loop : tie.MeasureT-loop
+μ-loop words low high s₀ k₀ s k = words - k
+
+loop-holds : tie.Need-loop-holds Inv-loop μ-loop
+loop-holds c = search needs
+
+mul-s : tie.Need-mul-s Inv-loop μ-loop
+mul-s c = search needs
+
+array-write-s : tie.Need-array-write-s Inv-loop μ-loop
+array-write-s c = search needs
+
+mul-s-2 : tie.Need-mul-s-2 Inv-loop μ-loop
+mul-s-2 c = search needs
+
+add-s : tie.Need-add-s Inv-loop μ-loop
+add-s c = search needs
+
+array-write-s-2 : tie.Need-array-write-s-2 Inv-loop μ-loop
+array-write-s-2 c = search needs
+
+add-k : tie.Need-add-k Inv-loop μ-loop
+add-k c = search needs
+
+loop-less : tie.Need-loop-less Inv-loop μ-loop
+loop-less c = search needs
+
+loop-again : tie.Need-loop-again Inv-loop μ-loop
+loop-again c = search needs
+
+returns : tie.Need-returns Inv-loop μ-loop
+returns c = search needs
+
+pub stream-spec : {M : Type 1} → statement M
+stream-spec =
+    tie.close
+    (tie.spec
+    Inv-loop
+    μ-loop
+    loop-holds
+    mul-s
+    array-write-s
+    mul-s-2
+    add-s
+    array-write-s-2
+    add-k
+    loop-less
+    loop-again
+    returns)
