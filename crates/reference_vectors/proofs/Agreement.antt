@@ -1,17 +1,23 @@
 -- How what the functions answer joins into what the definitions say of a case.
 use mathlib.Core.Path.{_≡_, refl, sym, ap, ap₂, subst, _∙_}
 use mathlib.Core.Bool.{Bool}
-use mathlib.Core.List.{List}
-use Prim.Native.Nat.{ℕ, zero, suc, _-_, _≤_}
+use mathlib.Core.List.{List, [], _∷_, _++_, append-assoc}
+use Prim.Native.Nat.{ℕ, zero, suc, _-_, _<_, _≤_}
 use native.Mathlib.Nat.{sub-zero}
 use native.Mathlib.Omega.{arith}
-use lib.ListN.{length, replicate, take, drop}
+use lib.ListN.{length, replicate, take, drop, take-append-drop, length-append}
+use lib.Seq.{take-at, take-all, length-take-le}
+use Rattle.lists.specs.Table.{zeros}
+use Rattle.lists.proofs.Zeros.{size-zeros}
 use Rattle.lists.proofs.Parts.{length-part}
+use Rattle.hex.specs.Hex.{written}
 use Rattle.records.specs.declared.Answer.{Answer}
+use Rattle.records.specs.Answers.{number}
+use Rattle.desk_line.specs.Line.{deskAnswer, deskEntry, decimal, shown, deskLine}
 use Rattle.vectors.specs.Answers.{Tells}
 use Rattle.reference_vectors.specs.declared.Call.{Call}
 use Rattle.reference_vectors.specs.declared.Kind.{Kind}
-use Rattle.reference_vectors.specs.Cases.{room, filler, output, OutputAgrees, AnswerAgrees, callAnswer, callOut, KeysAgree, KeygenAgrees, Agrees}
+use Rattle.reference_vectors.specs.Cases.{room, filler, output, OutputAgrees, AnswerAgrees, callAnswer, callOut, KeysAgree, KeygenAgrees, withoutFeed, Agrees}
 
 -- one function of equal arguments
 pub ap₄ : {A B C D E : Type 0} (f : A → B → C → D → E) {a a′ : A} {b b′ : B} {c c′ : C} {d d′ : D}
@@ -73,3 +79,21 @@ pub filled-output : (i : ℕ) (text buffer : List ℕ) {size : ℕ} → size ≡
 unfolding output
 filled-output i text buffer {size = size} e h =
     ap (λ (k : ℕ). replicate k filler) (length-part 0 size buffer h ∙ sub-zero size ∙ e)
+
+-- ---- the desk's line in its buffer, without the line feed
+
+take-front : (k : ℕ) (a b : List ℕ) → k ≤ length a → take k (a ++ b) ≡ take k a
+take-front k a b h =
+    ap (λ (l : List ℕ). take k (l ++ b)) (sym (take-append-drop k a)) ∙ ap (take k) (append-assoc (take k a) (drop k a) b)
+    ∙ take-at (take k a) (drop k a ++ b) k (length-take-le k a h)
+
+pub line-text : (line bytes : List ℕ) (end : ℕ) → bytes ≡ written line (zeros 35) → length line ≤ 35 → end ≡ length line - 1 → take end bytes ≡ withoutFeed line
+line-text line bytes end e h d =
+    ap (take end) (e ∙ ap (λ (l : List ℕ). l ++ drop (length line) (zeros 35)) (take-all (length (zeros 35)) line (omega (arith, size-zeros 35))))
+    ∙ take-front end line _ (omega arith)
+    ∙ ap (λ (k : ℕ). take k line) d
+
+pub line-some : (input : List ℕ) → 0 < length (deskLine input)
+unfolding deskLine
+line-some input =
+    omega (arith, length-append (decimal (number (deskAnswer input)) ++ (32 ∷ []) ++ shown (deskAnswer input) (deskEntry input)) (10 ∷ []))

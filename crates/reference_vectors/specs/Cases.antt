@@ -3,8 +3,8 @@
 use mathlib.Core.Path.{_≡_}
 use mathlib.Core.Bool.{true}
 use mathlib.Core.List.{List}
-use Prim.Native.Nat.{ℕ, zero, suc, _+_, _%_, min}
-use lib.ListN.{length, getD, replicate}
+use Prim.Native.Nat.{ℕ, zero, suc, _+_, _-_, _%_, min}
+use lib.ListN.{length, getD, replicate, take}
 use Rattle.shake.specs.Shake.{shake256}
 use Rattle.sampling.specs.Noise.{ternaryNoise}
 use Rattle.records.specs.declared.Answer.{Answer}
@@ -12,11 +12,12 @@ use Rattle.records.specs.declared.Answer.the-variants.{Done}
 use Rattle.records.specs.Answers.{number}
 use Rattle.calls.specs.Calls.{checkAnswer, keygenAnswer, keygenPublic, keygenSecret, encapsulateAnswer, encapsulateOut}
 use Rattle.calls.specs.Calls.{decapsulateAnswer, decapsulateOut, sealAnswer, sealOut, openAnswer, openOut}
+use Rattle.desk_line.specs.Line.{deskLine}
 use Rattle.vectors.specs.Fields.{word32, field, hasField}
 use Rattle.reference_vectors.specs.declared.Call.{Call}
 use Rattle.reference_vectors.specs.declared.Call.the-variants.{Encapsulate, Decapsulate, Seal, Open, Shake256}
 use Rattle.reference_vectors.specs.declared.Kind.{Kind}
-use Rattle.reference_vectors.specs.declared.Kind.the-variants.{CheckSecretKey, Keygen, Writing, Noise}
+use Rattle.reference_vectors.specs.declared.Kind.the-variants.{CheckSecretKey, Keygen, Writing, Noise, Desk}
 
 -- ---- outputs
 
@@ -74,6 +75,7 @@ lastField CheckSecretKey = 2
 lastField Keygen = 8
 lastField (Writing call) = sizeField call + 3
 lastField Noise = 3
+lastField Desk = 3
 
 abbrev pub Case : Kind → List ℕ → Type 0
 Case kind text = hasField (lastField kind) text ≡ true
@@ -107,8 +109,16 @@ residueOf w = (w + 59393) % 4294967296 % 59393
 abbrev pub NoiseAgrees : List ℕ → Type 0
 NoiseAgrees text = (word32 (field 1 text) ≡ 0) × (getD (ternaryNoise (field 0 text)) 0 0 ≡ residueOf (word32 (field 3 text)))
 
+-- the desk's line is told without its line feed
+abbrev pub withoutFeed : List ℕ → List ℕ
+withoutFeed line = take (length line - 1) line
+
+abbrev pub DeskAgrees : List ℕ → Type 0
+DeskAgrees text = withoutFeed (deskLine (field 0 text)) ≡ field 3 text
+
 abbrev pub Agrees : Kind → List ℕ → Type 0
 Agrees CheckSecretKey text = CheckAgrees text
 Agrees Keygen text = KeygenAgrees text (output 3 text) (output 4 text)
 Agrees (Writing call) text = CallAgrees call text (output (sizeField call) text)
 Agrees Noise text = NoiseAgrees text
+Agrees Desk text = DeskAgrees text

@@ -1,4 +1,4 @@
-// Works through the reference vectors: files of cases of each public call, with what code by other hands answered. It prints a line for
+// Works through the reference vectors: files of cases of each public call and of the desk program, with what code by other hands answered. It prints a line for
 // each file: how many cases agreed and how many differed, or what is wrong with the file. The files of example products, inverses and
 // remainders are worked through by ring_vectors, that of products in the tag's field by gf128_vectors.
 ghost use mathlib.Core.Path.{_≡_};
@@ -6,7 +6,7 @@ ghost use Prim.Native.Nat.{_≤_};
 ghost use lib.ListN.{length, replicate};
 ghost use Rattle.vectors.specs.Answers.{Tells, Judged};
 ghost use Rattle.reference_vectors.specs.Cases.{room, filler, output, OutputAgrees, AnswerAgrees, callAnswer, callOut, sizeField, lastField};
-ghost use Rattle.reference_vectors.specs.Cases.{Case, CheckAgrees, KeysAgree, KeygenAgrees, CallAgrees, residueOf, NoiseAgrees, Agrees};
+ghost use Rattle.reference_vectors.specs.Cases.{Case, CheckAgrees, KeysAgree, KeygenAgrees, CallAgrees, residueOf, NoiseAgrees, DeskAgrees, Agrees};
 use records::Answer;
 use vectors::Contents;
 use vectors::Report;
@@ -27,6 +27,7 @@ enum Kind {
     Keygen,
     Writing(Call),
     Noise,
+    Desk,
 }
 
 // ---- outputs
@@ -193,6 +194,18 @@ fn noise_agrees(text: &[u8]) -> bool
     p[0] as u64 == residue(vectors::word(vectors::field(text, 3)))
 }
 
+// ---- the desk
+
+// The line that the desk prints, without its line feed.
+fn desk_agrees(text: &[u8]) -> bool
+    ensures { λ r. ⌜ Tells r (DeskAgrees (now (text .entry))) ⌝ }
+{
+    let line = desk_line::line(vectors::field(text, 0));
+    let bytes = line.bytes;
+    let end = line.length - 1;
+    vectors::same(&bytes[0..end], vectors::field(text, 3))
+}
+
 // ---- cases
 
 fn last_field(kind: Kind) -> usize
@@ -203,6 +216,7 @@ fn last_field(kind: Kind) -> usize
         Kind::Keygen => 8,
         Kind::Writing(call) => size_field(call) + 3,
         Kind::Noise => 3,
+        Kind::Desk => 3,
     }
 }
 
@@ -214,6 +228,7 @@ fn agrees(kind: Kind, text: &[u8]) -> bool
         Kind::Keygen => keygen_case_agrees(text),
         Kind::Writing(call) => call_case_agrees(call, text),
         Kind::Noise => noise_agrees(text),
+        Kind::Desk => desk_agrees(text),
     }
 }
 
@@ -282,6 +297,10 @@ fn check_call_files() {
     check_file(Kind::Writing(Call::Shake256), b"shake256.bin");
 }
 
+fn check_desk_file() {
+    check_file(Kind::Desk, b"desk.bin");
+}
+
 fn check_example_files() {
     check_file(Kind::Noise, b"example_noise.bin");
 }
@@ -289,5 +308,6 @@ fn check_example_files() {
 fn main() {
     check_key_files();
     check_call_files();
+    check_desk_file();
     check_example_files();
 }

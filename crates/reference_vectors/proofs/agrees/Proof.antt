@@ -1,4 +1,4 @@
-use Rattle.reference_vectors.specs.declared.Kind.the-variants.{CheckSecretKey, Keygen, Writing, Noise}
+use Rattle.reference_vectors.specs.declared.Kind.the-variants.{CheckSecretKey, Keygen, Writing, Noise, Desk}
 use Rattle.reference_vectors.proofs.Agreement.{agrees-of}
 use borrow.Author.Needs.{needs}
 use Rattle.reference_vectors.proofs.agrees.Statement.{statement}
@@ -28,6 +28,12 @@ enum-told-3 c = search needs
 noise-agrees-requires : tie.Need-noise-agrees-requires
 noise-agrees-requires c κs = search needs
 
+enum-told-4 : tie.Need-enum-told-4
+enum-told-4 c = search needs
+
+desk-agrees-requires : tie.Need-desk-agrees-requires
+desk-agrees-requires c κs = search needs
+
 returns : tie.Need-returns
 returns c = agrees-of CheckSecretKey _ _ (c .before .enum-told .given .1) (c .check-agrees .ensures)
 
@@ -39,6 +45,9 @@ returns-3 c = agrees-of (Writing _) _ _ (c .before .before .kind .given .1) (c .
 
 returns-4 : tie.Need-returns-4
 returns-4 c = agrees-of Noise _ _ (c .before .enum-told3 .given .1) (c .noise-agrees .ensures)
+
+returns-5 : tie.Need-returns-5
+returns-5 c = agrees-of Desk _ _ (c .before .enum-told4 .given .1) (c .desk-agrees .ensures)
 
 pub agrees-spec : {M : Type 1} → statement M
 agrees-spec =
@@ -52,7 +61,10 @@ agrees-spec =
     call-case-agrees-requires
     enum-told-3
     noise-agrees-requires
+    enum-told-4
+    desk-agrees-requires
     returns
     returns-2
     returns-3
-    returns-4)
+    returns-4
+    returns-5)

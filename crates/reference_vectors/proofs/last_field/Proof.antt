@@ -24,6 +24,9 @@ add-result c = search needs
 enum-told-3 : tie.Need-enum-told-3
 enum-told-3 c = search needs
 
+enum-told-4 : tie.Need-enum-told-4
+enum-told-4 c = search needs
+
 returns : tie.Need-returns
 returns c = search needs
 
@@ -36,6 +39,9 @@ returns-3 c = (ap (λ (k : ℕ). k + 3) (c .size-field .ensures .0) ∙ sym (ap 
 returns-4 : tie.Need-returns-4
 returns-4 c = search needs
 
+returns-5 : tie.Need-returns-5
+returns-5 c = search needs
+
 pub last-field-spec : {M : Type 1} → statement M
 last-field-spec =
     tie.close
@@ -46,7 +52,9 @@ last-field-spec =
     size-field-requires
     add-result
     enum-told-3
+    enum-told-4
     returns
     returns-2
     returns-3
-    returns-4)
+    returns-4
+    returns-5)
