@@ -4,17 +4,18 @@ use std::path::{Path, PathBuf};
 
 use super::cases::{run, Call, Calls, Case, Count, Outcome};
 
-/// Where the files stand: POLKA_VECTORS, or the first of these folders that has them.
-pub fn folder() -> PathBuf {
+/// Where the file stands: in the folder POLKA_VECTORS, or with the program of the gate that works through it.
+fn path(file: &str) -> PathBuf {
+    let name = format!("{file}.bin");
     if let Some(folder) = std::env::var_os("POLKA_VECTORS") {
-        return folder.into();
+        return Path::new(&folder).join(name);
     }
-    let top = Path::new(env!("CARGO_MANIFEST_DIR")).join("..");
-    ["vectors", "crates/reference_vectors/data"]
+    let crates = Path::new(env!("CARGO_MANIFEST_DIR")).join("../crates");
+    ["reference_vectors", "ring_vectors", "gf128_vectors"]
         .iter()
-        .map(|place| top.join(place))
-        .find(|folder| folder.join("open.bin").exists())
-        .expect("no vectors: name their folder in POLKA_VECTORS")
+        .map(|program| crates.join(program).join("data").join(&name))
+        .find(|path| path.exists())
+        .unwrap_or_else(|| panic!("{name}: not found; name its folder in POLKA_VECTORS"))
 }
 
 pub struct Vector {
@@ -25,7 +26,7 @@ pub struct Vector {
 }
 
 pub fn read(file: &str, inputs: usize, outputs: usize) -> Vec<Vector> {
-    let path = folder().join(file).with_extension("bin");
+    let path = path(file);
     let bytes = std::fs::read(&path).unwrap_or_else(|error| panic!("{}: {error}", path.display()));
     let names: Vec<String> = std::fs::read_to_string(path.with_extension("txt"))
         .map(|text| text.lines().filter_map(|line| line.strip_prefix("name = ")).map(str::to_string).collect())
