@@ -24,6 +24,7 @@ pub struct PublicKey {
     pub b: [u16; 1024],
 }
 
+// Of a record with the mark "PDK".
 pub fn read_public_key(bytes: &[u8], forward: &[u16]) -> PublicKey
     requires { ⌜ (length (now bytes) ≡ 4101) × (now forward ≡ forwardFactors) ⌝ }
     ensures { λ k. ⌜ k .answer ≡ publicAnswer (now (bytes .entry)) ⌝ }
@@ -62,6 +63,7 @@ pub struct SecretKey {
     pub key: scheme::SecretKey,
 }
 
+// Of a record with the mark "SDK".
 pub fn read_secret_key(bytes: &[u8], forward: &[u16], backward: &[u16]) -> SecretKey
     requires { ⌜ length (now bytes) ≡ 4357 ⌝ }
     requires { ⌜ (now forward ≡ forwardFactors) × (now backward ≡ backwardFactors) ⌝ }

@@ -200,6 +200,7 @@ fn make_sealed(key: &[u8], noise: &[u8], entry: &[u8]) -> Sealed
     }
 }
 
+// A record with the mark "PLG", body and tag behind it.
 fn write_sealed(s: Sealed, out: &mut [u8])
     requires { ⌜ length (now out) ≡ 4133 ⌝ }
     ensures { λ _. ⌜ now (out .exit) ≡ onDone (s .answer) (recordBytes 80 76 71 (s .c1) (s .c2) ++ s .body ++ s .tag) (now (out .entry)) ⌝ }
@@ -255,6 +256,7 @@ fn verify_entry(t: Triple, sealed: &[u8]) -> Verified
     derivation::verify(r, e1, e2, body, tag)
 }
 
+// Of a record with the mark "PLG".
 fn recover_entry(key: &[u8], sealed: &[u8], noise: &[u8]) -> Opened
     requires { ⌜ (length (now key) ≡ 4357) × (length (now sealed) ≡ 4133) × (length (now noise) ≡ 1536) ⌝ }
     ensures { λ o. ⌜ o .answer ≡ openedBy (now (key .entry)) (now (sealed .entry)) (now (noise .entry)) ⌝ }
@@ -319,6 +321,7 @@ pub fn open(key: &[u8], sealed: &[u8], noise: &[u8], out: &mut [u8]) -> Answer
 
 // ---- keygen
 
+// A record with the mark "PDK".
 fn write_public_key(answer: Answer, a: [u16; 1024], b: [u16; 1024], out: &mut [u8])
     requires { ⌜ length (now out) ≡ 4101 ⌝ }
     ensures { λ _. ⌜ now (out .exit) ≡ onDone answer (recordBytes 80 68 75 a b) (now (out .entry)) ⌝ }
@@ -328,6 +331,7 @@ fn write_public_key(answer: Answer, a: [u16; 1024], b: [u16; 1024], out: &mut [u
     }
 }
 
+// A record with the mark "SDK", the codes of s behind it.
 fn write_secret_key(answer: Answer, a: [u16; 1024], b: [u16; 1024], s: [u16; 1024], out: &mut [u8])
     requires { ⌜ length (now out) ≡ 4357 ⌝ }
     ensures { λ _. ⌜ now (out .exit) ≡ onDone answer (recordBytes 83 68 75 a b ++ ternaryBytes s) (now (out .entry)) ⌝ }
