@@ -21,7 +21,8 @@ use Rattle.calls.specs.Calls.{publicAnswer, keygenB, keygenAnswer, publi
 use Rattle.calls.specs.WellFormed.{WellFormedFront, WellFormedKey}
 use Rattle.calls.specs.Promises.{Accepted, Matches, PublicOf}
 use Rattle.calls.proofs.AnswerLaws.{number-done, on-done}
-use Rattle.calls.proofs.WrittenRecords.{length-both, part-end, length-record, record-first, record-second, record-well-formed}
+use Rattle.records.proofs.Writing.{length-recordBytes}
+use Rattle.calls.proofs.WrittenRecords.{length-both, part-end, record-first, record-second, record-well-formed}
 use Rattle.calls.proofs.WhenDone.{keygen-done}
 use Rattle.calls.proofs.CheckExact.{accepted-iff}
 use Rattle.calls.proofs.Encapsulations.{public-accepted}
@@ -58,7 +59,7 @@ module _ (stream s e : List ℕ) where
 
   secret-codes : codesPart k ≡ codes
   unfolding secretKeyBytes
-  secret-codes = part-end (recordBytes 83 68 75 a b) codes (length-record 83 68 75 a b) (length-ternaryBytes (ternaryNoise s))
+  secret-codes = part-end (recordBytes 83 68 75 a b) codes (length-recordBytes 83 68 75 a b) (length-ternaryBytes (ternaryNoise s))
 
   secret-front : WellFormedFront 83 68 75 k
   unfolding secretKeyBytes
@@ -66,7 +67,7 @@ module _ (stream s e : List ℕ) where
 
   secret-size : length k ≡ 4357
   unfolding secretKeyBytes
-  secret-size = length-both (recordBytes 83 68 75 a b) codes (length-record 83 68 75 a b) (length-ternaryBytes (ternaryNoise s))
+  secret-size = length-both (recordBytes 83 68 75 a b) codes (length-recordBytes 83 68 75 a b) (length-ternaryBytes (ternaryNoise s))
 
   secret-well-formed : WellFormedKey k
   secret-well-formed = record { size = secret-size; front = secret-front; codes = rw secret-codes (ternaryBytes-valid (ternaryNoise s)) }
@@ -92,7 +93,7 @@ module _ (stream s e : List ℕ) where
 
   public-size : length p ≡ 4101
   unfolding publicKeyBytes
-  public-size = length-record 80 68 75 a b
+  public-size = length-recordBytes 80 68 75 a b
 
   public-of : PublicOf p k
   public-of = record {

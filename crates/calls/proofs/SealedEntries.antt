@@ -13,7 +13,8 @@ use Rattle.calls.specs.Calls.{noiseTriple, sealAnswer, sealedWith, seale
 use Rattle.calls.specs.WellFormed.{WellFormedEntry}
 use Rattle.calls.specs.Promises.{Accepted, PublicOf}
 use Rattle.calls.proofs.AnswerLaws.{on-done}
-use Rattle.calls.proofs.WrittenRecords.{length-both, part-behind, part-end, length-record, record-first, record-second, record-well-formed}
+use Rattle.records.proofs.Writing.{length-recordBytes}
+use Rattle.calls.proofs.WrittenRecords.{length-both, part-behind, part-end, record-first, record-second, record-well-formed}
 use Rattle.derivation.proofs.Laws.{bodyOf-block, tagOf-block, entryOf-bodyOf}
 use Rattle.calls.proofs.WhenDone.{seal-done}
 use Rattle.calls.proofs.Outcomes.{noise-ternary}
@@ -56,10 +57,10 @@ module _ (p : List ℕ) (t : Triple) {entry : List ℕ} (h : Block entry) where
 
   pub sealed-body : bodyPart (sealedWith p t entry) ≡ body
   unfolding sealedWith
-  sealed-body = part-behind front body tag (length-record 80 76 71 c1 c2) (body-block .size)
+  sealed-body = part-behind front body tag (length-recordBytes 80 76 71 c1 c2) (body-block .size)
 
   before-tag : length (front ++ body) ≡ 4117
-  before-tag = length-both front body (length-record 80 76 71 c1 c2) (body-block .size)
+  before-tag = length-both front body (length-recordBytes 80 76 71 c1 c2) (body-block .size)
 
   pub sealed-tag : tagPart (sealedWith p t entry) ≡ tag
   unfolding sealedWith

@@ -30,13 +30,6 @@ part-end front end {i} {k} f m = ap (take k) (drop-at front end i f) ∙ take-al
 
 -- ---- public key, secret key and sealed entry: the front
 
-pub length-record : (m0 m1 m2 : ℕ) (first second : List ℕ) → length (recordBytes m0 m1 m2 first second) ≡ 4101
-unfolding recordBytes
-length-record m0 m1 m2 first second =
-    length-both (header m0 m1 m2 1 ++ elementBytes first) (elementBytes second)
-    (length-both (header m0 m1 m2 1) (elementBytes first) (length-header m0 m1 m2 1) (length-elementBytes first))
-    (length-elementBytes second)
-
 module _ (m0 m1 m2 : ℕ) (first second rest : List ℕ) where
   -- the front, and what stands behind it
   abbrev written : List ℕ

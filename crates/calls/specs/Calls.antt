@@ -1,6 +1,6 @@
 -- What each public call answers and what its lent outputs hold afterwards, over the lent bytes (document 01, "Bytes" and "What the desk
 -- says"). Every definition holds for buffers of all lengths. Under any answer but Done an output is as it came.
-use mathlib.Core.Bool.{Bool, _&&_, decide}
+use mathlib.Core.Bool.{_&&_, decide}
 use mathlib.Core.List.{List, _++_}
 use Prim.Native.Nat.{ℕ}
 use lib.Dec.{eqb}

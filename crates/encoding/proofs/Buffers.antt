@@ -28,30 +28,7 @@ put-exact new old e =
 pub put-front : (new old : List ℕ) {part : List ℕ} {k : ℕ} → length new ≡ k → k ≤ length old → part ≡ new → part ++ drop k old ≡ putFront new old
 put-front new old e h p = sym (put-fits new old (omega arith) ∙ rw (e, p))
 
--- ---- part by part: `front` is written, and what stands behind it is as it came
-
--- `&mut out[a..a + k]` is lent, and `new` is put there
-pub put-next : (front new old out : List ℕ) (a k : ℕ) {e : ℕ} → out ≡ front ++ drop a old → length front ≡ a → length new ≡ k → a + k ≡ e
-    → e ≤ length old
-    → take a out ++ (putFront new (take k (drop a out)) ++ drop k (drop a out)) ≡ (front ++ new) ++ drop e old
-put-next front new old out a k {e} o f l m h =
-    let before : take a out ≡ front = ap (take a) o ∙ take-at front (drop a old) a f in
-    let behind : drop a out ≡ drop a old = ap (drop a) o ∙ drop-at front (drop a old) a f in
-    let room : length (take k (drop a out)) ≡ k = length-take-le k (drop a out) (rw behind (rw (length-drop a old) (omega arith))) in
-    let part : putFront new (take k (drop a out)) ≡ new = put-exact new (take k (drop a out)) (l ∙ sym room) in
-    let rest : drop k (drop a out) ≡ drop e old = ap (drop k) behind ∙ drop-drop k a old ∙ ap (λ (j : ℕ). drop j old) m in
-    rw (before, part, rest) (sym (append-assoc front new (drop e old)))
-
--- the part lent is p afterwards: what `putFront` makes of it ..
-pub put-part : (front new old out : List ℕ) (a k : ℕ) {e : ℕ} {p : List ℕ} → out ≡ front ++ drop a old → length front ≡ a → length new ≡ k → a + k ≡ e
-    → e ≤ length old → p ≡ putFront new (take k (drop a out))
-    → take a out ++ (p ++ drop k (drop a out)) ≡ (front ++ new) ++ drop e old
-put-part front new old out a k o f l m h p =
-    ap (λ (x : List ℕ). take a out ++ (x ++ drop k (drop a out))) p ∙ put-next front new old out a k o f l m h
-
--- .. and nothing was written before
-pub put-first : (new old : List ℕ) (k : ℕ) {p : List ℕ} → length new ≡ k → k ≤ length old → p ≡ putFront new (take k old) → p ++ drop k old ≡ new ++ drop k old
-put-first new old k l h p = put-part [] new old old 0 k refl refl l (zero-add k) h p
+-- ---- part by part: `front` is written, and what stands behind it is as it came; `&mut out[a..a + k]` is lent
 
 -- the part lent is `new` afterwards
 pub put-plain : (front new old out : List ℕ) (a k : ℕ) {e : ℕ} {p : List ℕ} → out ≡ front ++ drop a old → length front ≡ a → a + k ≡ e → p ≡ new
@@ -61,6 +38,19 @@ put-plain front new old out a k {e} o f m q =
     let behind : drop a out ≡ drop a old = ap (drop a) o ∙ drop-at front (drop a old) a f in
     let rest : drop k (drop a out) ≡ drop e old = ap (drop k) behind ∙ drop-drop k a old ∙ ap (λ (j : ℕ). drop j old) m in
     rw (before, q, rest) (sym (append-assoc front new (drop e old)))
+
+-- it is what `putFront` makes of it
+pub put-part : (front new old out : List ℕ) (a k : ℕ) {e : ℕ} {p : List ℕ} → out ≡ front ++ drop a old → length front ≡ a → length new ≡ k → a + k ≡ e
+    → e ≤ length old → p ≡ putFront new (take k (drop a out))
+    → take a out ++ (p ++ drop k (drop a out)) ≡ (front ++ new) ++ drop e old
+put-part front new old out a k {e} o f l m h p =
+    let behind : drop a out ≡ drop a old = ap (drop a) o ∙ drop-at front (drop a old) a f in
+    let room : length (take k (drop a out)) ≡ k = length-take-le k (drop a out) (rw behind (rw (length-drop a old) (omega arith))) in
+    put-plain front new old out a k o f m (p ∙ put-exact new (take k (drop a out)) (l ∙ sym room))
+
+-- nothing was written before
+pub put-first : (new old : List ℕ) (k : ℕ) {p : List ℕ} → length new ≡ k → k ≤ length old → p ≡ putFront new (take k old) → p ++ drop k old ≡ new ++ drop k old
+put-first new old k l h p = put-part [] new old old 0 k refl refl l (zero-add k) h p
 
 -- all of it is written
 pub put-all : (front old : List ℕ) (k : ℕ) → length old ≤ k → front ++ drop k old ≡ front

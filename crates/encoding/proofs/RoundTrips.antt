@@ -12,7 +12,7 @@ use Rattle.algebra.proofs.Numbers.{below-at, below-by}
 use Rattle.modq.proofs.Prime.{q-positive}
 use Rattle.ring.specs.Ring.{q, n, Element}
 use Rattle.ring.specs.Centred.{Ternary}
-use Rattle.ring.proofs.Sizes.{ternary-entry}
+use Rattle.ring.proofs.Ternaries.{ternary-entry}
 use Rattle.encoding.specs.Digits.{digitAt}
 use Rattle.encoding.specs.Words.{wordAt, words, elementOf, elementBytes}
 use Rattle.encoding.specs.Codes.{codeAt, coefficientOf, codeOf, ternaryOf, firstInvalidCode, packedAt, ternaryBytes}

@@ -1,10 +1,11 @@
 -- The scheme of document 004, section 4.1, on elements of a setting: keys, encapsulation (document 01's capsule making) and
--- decapsulation (opening), by the steps of document 01. All of it is defined for every list, sound or not.
+-- decapsulation (opening), by the five steps of document 01 ("Desk key", "Capsule and opening"). All of it is defined for every list,
+-- sound or not.
 use mathlib.Core.Path.{_≡_}
 use mathlib.Core.Bool.{Bool, true, false, _&&_}
 use mathlib.Core.List.{List}
 use Prim.Native.Nat.{ℕ}
-use Rattle.exactness.specs.Setting.{Setting, Element, Within, Ternary, sum, difference, multiple, one}
+use Rattle.exactness.specs.Setting.{Setting, Element, Ternary, sum, difference, multiple, one}
 
 -- three polynomials: a triple of document 01
 pub record Triple : Type 0 where
@@ -73,14 +74,15 @@ module _ (S : Setting) where
   unfoldable pub ternary? : Triple → Bool
   ternary? t = S .within? 1 (t .r) && S .within? 1 (t .e1) && S .within? 1 (t .e2)
 
-  -- steps 4 and 5, from the sums and E2
+  -- step 4, from the sums and E2
   unfoldable pub recovered : List ℕ → List ℕ → List ℕ → List ℕ → List ℕ → Triple
   recovered a i s1 s2 e2 = record { r = recoveredR i s2 e2; e1 = recoveredE1 a s1 (recoveredR i s2 e2); e2 = e2 }
 
+  -- the tests of steps 4 and 5, of R, E1, E2
   unfoldable pub judged : Triple → Triple → Outcome
   judged dummy t = provided (recovers? t) (provided (ternary? (unmasked dummy t)) (found (unmasked dummy t)))
 
-  -- steps 2 to 5, from the sums and the product of the first with s
+  -- steps 2 to 5, from the sums and the product of the first with s; step 3 is `remainders`
   unfoldable pub core : List ℕ → List ℕ → Triple → List ℕ → List ℕ → List ℕ → Outcome
   core a i dummy s1 s2 s1s = judged dummy (recovered a i s1 s2 (S .remainders (noisy s2 s1s)))
 

@@ -35,7 +35,7 @@ module _ (S : Setting) where
 
   -- document 01's short: every centred coefficient is - 1, 0 or 1
   abbrev pub Ternary : List ℕ → Type 0
-  Ternary a = Element a × Within 1 a
+  Ternary a = Bounded 1 a
 
   -- the sum of the sizes of the centred coefficients
   unfoldable pub weight : List ℕ → ℕ

@@ -273,7 +273,7 @@ fn recover_entry(key: &[u8], sealed: &[u8], noise: &[u8]) -> Opened
     let c2 = c.second;
     let dummy = keys::noise_triple(noise);
     let d = scheme::decapsulate(
-        read.key,
+        prepared,
         dummy,
         Encapsulation { c1, c2 },
         &forward,

@@ -1,6 +1,6 @@
 -- The ring and its laws.
 pub mod RingLaws
-pub mod Sizes
+pub mod Ternaries
 -- Centred values, residues and remainders.
 pub mod Integers
 pub mod Centring

@@ -7,7 +7,7 @@ use lib.IntN.{ℤ, pos, negsuc, negℤ, natAbs, _-ℤ_}
 use lib.ListN.{length, getD}
 use Rattle.lists.specs.Table.{table}
 use Rattle.lists.specs.First.{firstFailing}
-use Rattle.algebra.specs.Numbers.{subMod, sumBelow}
+use Rattle.algebra.specs.Numbers.{subMod}
 use Rattle.ring.specs.Ring.{q, n, Element}
 
 -- the centred value of a word: its residue c is c up to 29,696 and c - 59,393 above
@@ -54,7 +54,3 @@ near? k c = leb (natAbs (centred c)) k
 -- every entry passes: as `Within`, for a list of n words
 unfoldable pub within? : ℕ → List ℕ → Bool
 within? k a = eqb (firstFailing (near? k) a) (length a)
-
--- the sum of the sizes of the centred coefficients
-unfoldable pub weight : List ℕ → ℕ
-weight a = sumBelow n (λ i. natAbs (centred (getD a i 0)))

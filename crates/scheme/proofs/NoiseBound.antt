@@ -22,7 +22,7 @@ use Rattle.ring.specs.Ring.{q, n}
 use Rattle.ring.specs.Centred.{centred, residue, Within, Ternary}
 use Rattle.ring.proofs.Integers.{abs-plus, abs-multiple}
 use Rattle.ring.proofs.Centring.{centred-same, centred-size, residue-below, centred-residue, residue-combination}
-use Rattle.ring.proofs.Sizes.{ternary-entry}
+use Rattle.ring.proofs.Ternaries.{ternary-entry}
 use Rattle.scheme.specs.Scheme.{Triple, setting, keyElement, keyNoise}
 use Rattle.scheme.specs.Noise.{nonzeros, keyWeight, noise, noiseQuotient, NoiseBound, step2, DecapsulationNoise}
 use Rattle.scheme.proofs.Givens.{givens, combination-at, magnitude-at}

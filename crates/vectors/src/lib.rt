@@ -1,5 +1,6 @@
 // What programs over files of test vectors share: the fields of a file, the verdict on a case, reading a file whole, and its line of report.
 ghost use mathlib.Core.Path.{_≡_};
+ghost use Rattle.lists.specs.Table.{zeros};
 ghost use Prim.Native.Nat.{_+_, _*_, _≤_, min};
 ghost use lib.ListN.{length, getD, replicate};
 ghost use Rattle.vectors.specs.Fields.{word32, endFrom, start, field, hasField};
@@ -117,7 +118,7 @@ pub enum Verdict {
 
 // 2 MiB of zeros, which hold a file whole.
 pub fn file_buffer() -> [u8; 2097152]
-    ensures { λ r. ⌜ 2097152 ≡ length r ⌝ }
+    ensures { λ r. ⌜ r ≡ zeros 2097152 ⌝ }
 {
     [0; 2097152]
 }
