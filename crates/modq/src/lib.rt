@@ -1,19 +1,43 @@
 // Arithmetic modulo q = 59,393. Every u16 is taken, as its residue; every result is below q.
 ghost use mathlib.Core.Path.{_≡_};
+ghost use Prim.Native.Nat.{_%_, _<_, _≤_};
 ghost use Rattle.algebra.specs.Numbers.{addMod, subMod, mulMod};
 ghost use Rattle.modq.specs.Modulus.{q, reciprocalOf};
+
+// A word is below 2 q.
+pub fn reduce(x: u16) -> u16
+    ensures { λ r. ⌜ r ≡ x % q ⌝ }
+{
+    if 59393 <= x { x - 59393 } else { x }
+}
+
+// Of words that are reduced already. What is borrowed is chosen before the difference is made: so every step fits a word, and the
+// compiler works on eight words at a time.
+pub fn sub_reduced(a: u16, b: u16) -> u16
+    requires { ⌜ (a < q) × (b ≤ q) ⌝ }
+    ensures { λ r. ⌜ r ≡ subMod q a b ⌝ }
+{
+    let borrowed = if a < b { 59393u32 } else { 0u32 };
+    (a as u32 + borrowed - b as u32) as u16
+}
+
+pub fn add_reduced(a: u16, b: u16) -> u16
+    requires { ⌜ (a < q) × (b < q) ⌝ }
+    ensures { λ r. ⌜ r ≡ addMod q a b ⌝ }
+{
+    sub_reduced(a, 59393 - b)
+}
 
 pub fn add(a: u16, b: u16) -> u16
     ensures { λ r. ⌜ r ≡ addMod q a b ⌝ }
 {
-    ((a as u32 + b as u32) % 59393) as u16
+    add_reduced(reduce(a), reduce(b))
 }
 
-// 118,786 is 2 q, so no difference is negative.
 pub fn sub(a: u16, b: u16) -> u16
     ensures { λ r. ⌜ r ≡ subMod q a b ⌝ }
 {
-    ((a as u32 + (118786 - b as u32)) % 59393) as u16
+    sub_reduced(reduce(a), reduce(b))
 }
 
 pub fn mul(a: u16, b: u16) -> u16
