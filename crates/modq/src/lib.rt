@@ -1,8 +1,9 @@
 // Arithmetic modulo q = 59,393. Every u16 is taken, as its residue; every result is below q.
 ghost use mathlib.Core.Path.{_≡_};
-ghost use Prim.Native.Nat.{_%_, _<_, _≤_};
+ghost use Prim.Native.Nat.{_*_, _/_, _%_, _<_, _≤_};
 ghost use Rattle.algebra.specs.Numbers.{addMod, subMod, mulMod};
 ghost use Rattle.modq.specs.Modulus.{q, reciprocalOf};
+ghost use Rattle.modq.specs.Montgomery.{montgomeryForm, montgomeryProduct};
 
 // A word is below 2 q.
 pub fn reduce(x: u16) -> u16
@@ -45,6 +46,44 @@ pub fn mul(a: u16, b: u16) -> u16
 {
     (a as u32 * b as u32 % 59393) as u16
 }
+
+// ---- products by a factor in Montgomery's form, 2^16 times the factor: no division, and eight words at a time
+
+fn high(a: u16, b: u16) -> u16
+    ensures { λ r. ⌜ r ≡ a * b / 65536 ⌝ }
+{
+    (a as u32 * b as u32 / 65536) as u16
+}
+
+fn low(a: u16, b: u16) -> u16
+    ensures { λ r. ⌜ r ≡ (a * b) % 65536 ⌝ }
+{
+    (a as u32 * b as u32 % 65536) as u16
+}
+
+// The high half of m q, where m is w y / q modulo 2^16 (6145 is 1 / q). The low half of m q is that of w y, so w y - m q is
+// 2^16 times high(w, y) - reduction(w, y).
+fn reduction(w: u16, y: u16) -> u16
+    ensures { λ r. ⌜ r ≡ ((((w * y) % 65536) * 6145) % 65536) * 59393 / 65536 ⌝ }
+{
+    high(low(low(w, y), 6145), 59393)
+}
+
+pub fn montgomery_product(w: u16, y: u16) -> u16
+    requires { ⌜ w < q ⌝ }
+    ensures { λ r. ⌜ r ≡ montgomeryProduct w y ⌝ }
+{
+    sub_reduced(high(w, y), reduction(w, y))
+}
+
+// 21894 is 2^32 modulo q, Montgomery's form of 2^16.
+pub fn montgomery_form(x: u16) -> u16
+    ensures { λ r. ⌜ r ≡ montgomeryForm x ⌝ }
+{
+    montgomery_product(21894, x)
+}
+
+// ---- reciprocals
 
 // The reciprocal of x modulo q, and 0 where there is none. For the residue y of x, q = y × (q / y) + q % y, so the reciprocal
 // of y is - (q / y) times that of q % y, and the residues fall.

@@ -9,11 +9,11 @@ use lib.Pow.{pow-pos}
 use Rattle.lists.specs.Table.{table}
 use Rattle.lists.proofs.Tables.{length-table, getD-table, table-same, part-table}
 use Rattle.algebra.specs.Halving.{reversed}
-use Rattle.algebra.specs.Numbers.{mulMod}
+use Rattle.algebra.specs.Numbers.{mulMod, scale}
 use Rattle.ntt.specs.Spectrum.{q, degree, ψ, power}
-use Rattle.ntt.specs.Montgomery.{montgomeryForm, montgomeryProduct}
-use Rattle.ntt.specs.Factors.{powersTable, blockOf, forwardFactor, backwardFactor, forwardFactors, backwardFactors}
-use Rattle.ntt.proofs.Montgomery.{from-form}
+use Rattle.modq.specs.Montgomery.{montgomeryForm, montgomeryProduct, fromMontgomery}
+use Rattle.ntt.specs.Factors.{powersTable, powerForms, blockOf, forwardFactor, backwardFactor, forwardFactors, backwardFactors}
+use Rattle.modq.proofs.Montgomery.{from-form, product-of-form}
 use Rattle.ntt.proofs.Reversal.{reversed-one, reversed-step, reversed-below, reversed-positive}
 use Rattle.ntt.proofs.Join.{blockExponent, ForwardFactors, BackwardFactors}
 
@@ -22,6 +22,23 @@ use Rattle.ntt.proofs.Join.{blockExponent, ForwardFactors, BackwardFact
 pub power-at : (e : ℕ) → e < degree → getD powersTable e 0 ≡ power e
 unfolding powersTable
 power-at e h = getD-table degree power e 0 h
+
+-- the constant table in Montgomery's form
+pub forms-of-powers : scale q degree (fromMontgomery 21894) powersTable ≡ powerForms
+unfolding scale powersTable powerForms
+forms-of-powers = table-same degree _ _ (λ k h. ap (mulMod q 6143) (getD-table degree power k 0 h) ∙ form (power k))
+  where
+    form : (x : ℕ) → mulMod q 6143 x ≡ montgomeryForm x
+    form x = omega arith
+
+-- a multiple, by the form of its number
+pub scale-of-form : (c : ℕ) (a : List ℕ) → scale q degree (fromMontgomery (montgomeryForm c)) a ≡ scale q degree c a
+unfolding scale
+scale-of-form c a = table-same degree _ _ (λ k h. product-of-form c (getD a k 0))
+
+pub form-at : (e : ℕ) → e < degree → getD powerForms e 0 ≡ montgomeryForm (power e)
+unfolding powerForms
+form-at e h = getD-table degree _ e 0 h
 
 power-below : (e : ℕ) → power e < q
 power-below e = mod-lt (ψ ^ e) (omega arith)

@@ -4,11 +4,15 @@ use Prim.Native.Nat.{ℕ, _+_, _-_, _/_, _%_, _^_}
 use Rattle.lists.specs.Table.{table}
 use Rattle.algebra.specs.Halving.{reversed}
 use Rattle.ntt.specs.Spectrum.{degree, power}
-use Rattle.ntt.specs.Montgomery.{montgomeryForm}
+use Rattle.modq.specs.Montgomery.{montgomeryForm}
 
 -- the constant table: 1, ψ, ψ², .., ψ^1023 modulo q
 unfoldable pub powersTable : List ℕ
 powersTable = table degree power
+
+-- its entries in Montgomery's form
+unfoldable pub powerForms : List ℕ
+powerForms = table degree (λ k. montgomeryForm (power k))
 
 -- Layer k has 2^k blocks, and pair j is in block j % 2^k. Blocks are numbered through all layers: those of layer k from 2^k on.
 abbrev pub blockOf : ℕ → ℕ → ℕ

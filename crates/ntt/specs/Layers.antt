@@ -21,9 +21,23 @@ module _ (q h : ℕ) where
       table h (λ j. addMod q (getD a (2 * j) 0) (getD a (2 * j + 1) 0))
       ++ table h (λ j. mulMod q (f j) (subMod q (getD a (2 * j + 1) 0) (getD a (2 * j) 0)))
 
+  -- the same from the entries at even places, then those at odd places
+  unfoldable pub unzippedLayer : (ℕ → ℕ) → List ℕ → List ℕ
+  unzippedLayer f p =
+      table h (λ j. addMod q (getD p j 0) (getD p (h + j) 0))
+      ++ table h (λ j. mulMod q (f j) (subMod q (getD p (h + j) 0) (getD p j 0)))
+
 -- the entries at even places, then those at odd places
 unfoldable pub unzipped : ℕ → List ℕ → List ℕ
 unzipped h a = table h (λ j. getD a (2 * j) 0) ++ table h (λ j. getD a (2 * j + 1) 0)
+
+-- entries 2 j and 2 j + 1 in one number of two 16-bit halves
+unfoldable pub pairs : ℕ → List ℕ → List ℕ
+pairs h a = table h (λ j. getD a (2 * j) 0 + 65536 * getD a (2 * j + 1) 0)
+
+-- the low halves, then the high halves
+unfoldable pub halves : ℕ → List ℕ → List ℕ
+halves h v = table h (λ j. getD v j 0 % 65536) ++ table h (λ j. getD v j 0 / 65536)
 
 -- layer 0 first, then layer 1, .., n layers in all
 unfoldable pub layers : (ℕ → List ℕ → List ℕ) → ℕ → List ℕ → List ℕ

@@ -2,15 +2,16 @@
 mod table;
 
 ghost use mathlib.Core.Path.{_≡_};
-ghost use Prim.Native.Nat.{_+_, _-_, _*_, _/_, _%_, _<_};
-ghost use lib.ListN.{length, getD};
+ghost use mathlib.Core.List.{_++_};
+ghost use Prim.Native.Nat.{_+_, _-_, _*_, _/_, _%_, _^_, _<_, _≤_};
+ghost use lib.ListN.{length, getD, take, drop};
 ghost use Rattle.lists.specs.Table.{table};
 ghost use Rattle.algebra.specs.Halving.{reversed};
-ghost use Rattle.algebra.specs.Numbers.{addMod, subMod, mulMod, Below, reduced, scale};
+ghost use Rattle.algebra.specs.Numbers.{mulMod, Below, reduced, scale};
+ghost use Rattle.modq.specs.Montgomery.{montgomeryForm, fromMontgomery};
 ghost use Rattle.ntt.specs.Spectrum.{q, degree, inverseDegree, power, spectrumOf, coefficientsOf, pointwise};
-ghost use Rattle.ntt.specs.Montgomery.{montgomeryForm, montgomeryProduct};
-ghost use Rattle.ntt.specs.Factors.{powersTable, blockOf, forwardFactor, backwardFactor, forwardFactors, backwardFactors};
-ghost use Rattle.ntt.specs.Layers.{forwardLayer, unzipped, backwardLayer};
+ghost use Rattle.ntt.specs.Factors.{powersTable, powerForms, blockOf, forwardFactor, backwardFactor, forwardFactors, backwardFactors};
+ghost use Rattle.ntt.specs.Layers.{forwardLayer, pairs, halves, unzippedLayer};
 
 // ---- the table of powers
 
@@ -20,79 +21,16 @@ fn powers() -> [u16; 1024]
     table::POWERS
 }
 
-// ---- arithmetic modulo q on u16
-
-fn add(a: u16, b: u16) -> u16
-    requires { ⌜ (a < q) × (b < q) ⌝ }
-    ensures { λ r. ⌜ r ≡ addMod q a b ⌝ }
-{
-    let c = 59393 - b;
-    if c <= a { a - c } else { a + b }
-}
-
-fn sub(a: u16, b: u16) -> u16
-    requires { ⌜ (a < q) × (b < q) ⌝ }
-    ensures { λ r. ⌜ r ≡ subMod q a b ⌝ }
-{
-    if b <= a { a - b } else { a + (59393 - b) }
-}
-
-fn high(a: u16, b: u16) -> u16
-    ensures { λ r. ⌜ r ≡ a * b / 65536 ⌝ }
-{
-    (a as u32 * b as u32 / 65536) as u16
-}
-
-fn low(a: u16, b: u16) -> u16
-    ensures { λ r. ⌜ r ≡ (a * b) % 65536 ⌝ }
-{
-    (a as u32 * b as u32 % 65536) as u16
-}
-
-// The high half of m q, where m is w y / q modulo 2^16 (6145 is 1 / q). The low half of m q is that of w y, so w y - m q is
-// 2^16 times high(w, y) - reduction(w, y).
-fn reduction(w: u16, y: u16) -> u16
-    ensures { λ r. ⌜ r ≡ ((((w * y) % 65536) * 6145) % 65536) * 59393 / 65536 ⌝ }
-{
-    high(low(low(w, y), 6145), 59393)
-}
-
-// The next three multiply by a factor w in Montgomery's form. The high half goes to x first and the reduction to that: so every
-// step fits a word, and the compiler works on eight words at a time.
-
-fn add_product(x: u16, w: u16, y: u16) -> u16
-    requires { ⌜ (x < q) × (w < q) ⌝ }
-    ensures { λ r. ⌜ r ≡ addMod q x (montgomeryProduct w y) ⌝ }
-{
-    sub(add(x, high(w, y)), reduction(w, y))
-}
-
-fn sub_product(x: u16, w: u16, y: u16) -> u16
-    requires { ⌜ (x < q) × (w < q) ⌝ }
-    ensures { λ r. ⌜ r ≡ subMod q x (montgomeryProduct w y) ⌝ }
-{
-    add(sub(x, high(w, y)), reduction(w, y))
-}
-
-fn product(w: u16, y: u16) -> u16
+// Each word times the factor whose form is w.
+fn scaled(w: u16, a: [u16; 1024]) -> [u16; 1024]
     requires { ⌜ w < q ⌝ }
-    ensures { λ r. ⌜ r ≡ montgomeryProduct w y ⌝ }
+    ensures { λ r. ⌜ r ≡ scale q degree (fromMontgomery w) a ⌝ }
 {
-    sub(high(w, y), reduction(w, y))
-}
-
-// 21894 is 2^32 modulo q, Montgomery's form of 2^16.
-fn to_montgomery(x: u16) -> u16
-    ensures { λ r. ⌜ r ≡ montgomeryForm x ⌝ }
-{
-    product(21894, x)
-}
-
-// A word is below 2 q.
-fn reduce(x: u16) -> u16
-    ensures { λ r. ⌜ r ≡ x % q ⌝ }
-{
-    if 59393 <= x { x - 59393 } else { x }
+    let mut r = [0u16; 1024];
+    for i in 0..1024 {
+        r[i] = modq::montgomery_product(w, a[i]);
+    }
+    r
 }
 
 // ---- the factors of the layers
@@ -121,31 +59,70 @@ fn opposites(e: [u16; 1024]) -> [u16; 1024]
     r
 }
 
+// The powers in Montgomery's form: 21894 is the form of 2^16.
+fn power_forms() -> [u16; 1024]
+    ensures { λ r. ⌜ r ≡ powerForms ⌝ }
+{
+    scaled(21894, powers())
+}
+
 // The powers with the exponents e, in Montgomery's form. No factor has the exponent 1024.
-fn block_factors(t: &[u16; 1024], e: [u16; 1024]) -> [u16; 1024]
-    requires { ⌜ now t ≡ powersTable ⌝ }
+fn block_factors(e: [u16; 1024]) -> [u16; 1024]
     ensures { λ r. ⌜ r ≡ table 1024 (λ m. montgomeryForm (power (getD e m 0 % 1024))) ⌝ }
 {
+    let t = power_forms();
     let mut r = [0u16; 1024];
     for m in 0..1024 {
         let at = (e[m] % 1024) as usize;
-        r[m] = to_montgomery(t[at]);
+        r[m] = t[at];
     }
     r
 }
 
-// The factors of layer k: each block's factor at all its pairs.
-fn layer_factors(w: &mut [u16], f: &[u16; 1024], k: usize)
-    requires { ⌜ (length (now w) ≡ 512) × (k < 10) ⌝ }
-    ensures { λ _. ⌜ now (w .exit) ≡ table 512 (λ j. getD (now (f .entry)) (blockOf k j) 0) ⌝ }
+// The factors of the n blocks of a layer, where n is the length of w.
+fn first_factors(w: &mut [u16], f: &[u16])
+    requires { ⌜ length (now w) + length (now w) ≤ length (now f) ⌝ }
+    ensures { λ _. ⌜ now (w .exit) ≡ take (length (now (w .entry))) (drop (length (now (w .entry))) (now (f .entry))) ⌝ }
 {
-    let n = 1 << k;
-    for j in 0..512 {
-        w[j] = f[n + j % n];
+    let n = w.len();
+    for i in 0..n {
+        w[i] = f[n + i];
     }
 }
 
-fn pair_factors(f: &[u16; 1024]) -> [u16; 5120]
+// Copies the first half to the second.
+fn double(w: &mut [u16], m: usize)
+    requires { ⌜ length (now w) ≡ m + m ⌝ }
+    ensures { λ _. ⌜ now (w .exit) ≡ take m (now (w .entry)) ++ take m (now (w .entry)) ⌝ }
+{
+    for i in 0..m {
+        w[m + i] = w[i];
+    }
+}
+
+// Repeats the first 2^k entries up to 512, by doubling what stands already.
+fn repeat(w: &mut [u16], k: usize)
+    requires { ⌜ (length (now w) ≡ 512) × (k < 10) ⌝ }
+    ensures { λ _. ⌜ now (w .exit) ≡ table 512 (λ j. getD (now (w .entry)) (j % 2 ^ k) 0) ⌝ }
+{
+    for d in k..9 {
+        let m = 1 << d;
+        double(&mut w[0..m + m], m);
+    }
+}
+
+// The factors of layer k: each block's factor at all its pairs.
+fn layer_factors(w: &mut [u16], f: &[u16], k: usize)
+    requires { ⌜ (length (now w) ≡ 512) × (length (now f) ≡ 1024) × (k < 10) ⌝ }
+    ensures { λ _. ⌜ now (w .exit) ≡ table 512 (λ j. getD (now (f .entry)) (blockOf k j) 0) ⌝ }
+{
+    let n = 1 << k;
+    first_factors(&mut w[0..n], f);
+    repeat(w, k);
+}
+
+fn pair_factors(f: &[u16]) -> [u16; 5120]
+    requires { ⌜ length (now f) ≡ 1024 ⌝ }
     ensures { λ r. ⌜ r ≡ table 5120 (λ i. getD (now (f .entry)) (blockOf (i / 512) (i % 512)) 0) ⌝ }
 {
     let mut r = [0u16; 5120];
@@ -161,8 +138,7 @@ fn pair_factors(f: &[u16; 1024]) -> [u16; 5120]
 pub fn forward_factors() -> [u16; 5120]
     ensures { λ r. ⌜ r ≡ forwardFactors ⌝ }
 {
-    let t = powers();
-    let f = block_factors(&t, exponents());
+    let f = block_factors(exponents());
     pair_factors(&f)
 }
 
@@ -170,8 +146,7 @@ pub fn forward_factors() -> [u16; 5120]
 pub fn backward_factors() -> [u16; 5120]
     ensures { λ r. ⌜ r ≡ backwardFactors ⌝ }
 {
-    let t = powers();
-    let f = block_factors(&t, opposites(exponents()));
+    let f = block_factors(opposites(exponents()));
     pair_factors(&f)
 }
 
@@ -183,38 +158,36 @@ fn reduced(a: [u16; 1024]) -> [u16; 1024]
 {
     let mut r = [0u16; 1024];
     for i in 0..1024 {
-        r[i] = reduce(a[i]);
+        r[i] = modq::reduce(a[i]);
     }
     r
 }
 
-fn forward_layer(a: [u16; 1024], w: &[u16], k: usize) -> [u16; 1024]
-    requires { ⌜ (Below q a) × (k < 10) ⌝ }
+fn forward_layer(r: &mut [u16], a: &[u16], w: &[u16], k: usize)
+    requires { ⌜ (length (now r) ≡ 1024) × (length (now a) ≡ 1024) × Below q (now a) × (k < 10) ⌝ }
     requires { ⌜ now w ≡ forwardFactors ⌝ }
-    ensures { λ r. ⌜ r ≡ forwardLayer q 512 (forwardFactor k) a ⌝ }
+    ensures { λ _. ⌜ now (r .exit) ≡ forwardLayer q 512 (forwardFactor k) (now (a .entry)) ⌝ }
 {
-    let mut r = [0u16; 1024];
     for j in 0..512 {
         let x = a[j];
-        let y = a[512 + j];
-        let f = w[512 * k + j];
-        let sum = add_product(x, f, y);
-        let difference = sub_product(x, f, y);
+        let product = modq::montgomery_product(w[512 * k + j], a[512 + j]);
+        let sum = modq::add_reduced(x, product);
+        let difference = modq::sub_reduced(x, product);
         r[2 * j] = sum;
         r[2 * j + 1] = difference;
     }
-    r
 }
 
-// The value of a at each root of X^1024 + 1.
+// The value of a at each root of X^1024 + 1. Two layers a turn, to and fro between two arrays.
 pub fn forward(a: [u16; 1024], w: &[u16]) -> [u16; 1024]
     requires { ⌜ now w ≡ forwardFactors ⌝ }
     ensures { λ r. ⌜ r ≡ spectrumOf a ⌝ }
 {
     let mut s = reduced(a);
-    for k in 0..10 {
-        let t = forward_layer(s, w, k);
-        s = t;
+    let mut t = [0u16; 1024];
+    for k in 0..5 {
+        forward_layer(&mut t, &s, w, 2 * k);
+        forward_layer(&mut s, &t, w, 2 * k + 1);
     }
     s
 }
@@ -225,40 +198,44 @@ pub fn forward(a: [u16; 1024], w: &[u16]) -> [u16; 1024]
 fn divided(a: [u16; 1024]) -> [u16; 1024]
     ensures { λ r. ⌜ r ≡ scale q degree inverseDegree a ⌝ }
 {
-    let mut r = [0u16; 1024];
-    for i in 0..1024 {
-        r[i] = product(64, a[i]);
-    }
-    r
+    scaled(64, a)
 }
 
-// The entries at even places, then those at odd places. It stands alone, since the compiler reads every other word well only in a
-// loop that does no more.
-fn unzipped(a: [u16; 1024]) -> [u16; 1024]
-    ensures { λ r. ⌜ r ≡ unzipped 512 a ⌝ }
+// The entries 2 j and 2 j + 1 in one number. The compiler makes one copy of memory of it, and takes halves of 32 bits apart faster than
+// it reads every other word.
+fn pairs(v: &mut [u32], a: &[u16])
+    requires { ⌜ (length (now v) ≡ 512) × (length (now a) ≡ 1024) ⌝ }
+    ensures { λ _. ⌜ now (v .exit) ≡ pairs 512 (now (a .entry)) ⌝ }
 {
-    let mut r = [0u16; 1024];
     for j in 0..512 {
-        r[j] = a[2 * j];
-        r[512 + j] = a[2 * j + 1];
+        v[j] = a[2 * j] as u32 + 65536 * a[2 * j + 1] as u32;
     }
-    r
 }
 
-fn backward_layer(a: [u16; 1024], w: &[u16], k: usize) -> [u16; 1024]
-    requires { ⌜ (Below q a) × (k < 10) ⌝ }
-    requires { ⌜ now w ≡ backwardFactors ⌝ }
-    ensures { λ r. ⌜ r ≡ backwardLayer q 512 (backwardFactor k) a ⌝ }
+// The low halves, then the high halves.
+fn halves(p: &mut [u16], v: &[u32])
+    requires { ⌜ (length (now p) ≡ 1024) × (length (now v) ≡ 512) ⌝ }
+    ensures { λ _. ⌜ now (p .exit) ≡ halves 512 (now (v .entry)) ⌝ }
 {
-    let p = unzipped(a);
-    let mut r = [0u16; 1024];
+    for j in 0..512 {
+        p[j] = (v[j] % 65536) as u16;
+        p[512 + j] = (v[j] / 65536) as u16;
+    }
+}
+
+// On the entries at even places, then those at odd places.
+fn backward_layer(r: &mut [u16], p: &[u16], w: &[u16], k: usize)
+    requires { ⌜ (length (now r) ≡ 1024) × (length (now p) ≡ 1024) × Below q (now p) × (k < 10) ⌝ }
+    requires { ⌜ now w ≡ backwardFactors ⌝ }
+    ensures { λ _. ⌜ now (r .exit) ≡ unzippedLayer q 512 (backwardFactor k) (now (p .entry)) ⌝ }
+{
     for j in 0..512 {
         let x = p[j];
         let y = p[512 + j];
-        r[j] = add(x, y);
-        r[512 + j] = product(w[512 * k + j], sub(y, x));
+        let difference = modq::sub_reduced(y, x);
+        r[j] = modq::add_reduced(x, y);
+        r[512 + j] = modq::montgomery_product(w[512 * k + j], difference);
     }
-    r
 }
 
 // The polynomial with the values a.
@@ -267,19 +244,29 @@ pub fn backward(a: [u16; 1024], w: &[u16]) -> [u16; 1024]
     ensures { λ r. ⌜ r ≡ coefficientsOf a ⌝ }
 {
     let mut s = divided(a);
+    let mut v = [0u32; 512];
+    let mut p = [0u16; 1024];
     for k in 0..10 {
-        let t = backward_layer(s, w, 9 - k);
-        s = t;
+        pairs(&mut v, &s);
+        halves(&mut p, &v);
+        backward_layer(&mut s, &p, w, 9 - k);
     }
     s
 }
 
 // ---- products
 
+// c × a, word by word.
+pub fn multiple(c: u16, a: [u16; 1024]) -> [u16; 1024]
+    ensures { λ r. ⌜ r ≡ scale q degree c a ⌝ }
+{
+    scaled(modq::montgomery_form(c), a)
+}
+
 fn multiply(x: u16, y: u16) -> u16
     ensures { λ r. ⌜ r ≡ mulMod q x y ⌝ }
 {
-    product(to_montgomery(x), y)
+    modq::montgomery_product(modq::montgomery_form(x), y)
 }
 
 // The values of a product, from those of its two factors.

@@ -1,17 +1,17 @@
--- Tests of every entry: a scan that stopped at entry i, or at none, and what its answer says.
+-- Tests of every entry, and what their answers say.
 use mathlib.Core.Path.{_≡_, sym, ap, _∙_}
 use mathlib.Core.Bool.{Bool, true, false, not}
 use mathlib.Core.Logic.{_↔_, _≢_}
 use mathlib.Core.List.{List}
 use Prim.Native.Nat.{ℕ, _-_, _%_, _<_, _≤_, min}
 use native.Mathlib.Nat.{le-of-eq}
-use native.Mathlib.Decide.{decLe}
+use native.Mathlib.Decide.{decLe, decLt}
 use native.Mathlib.Omega.{arith}
-use lib.Dec.{leb}
+use lib.Dec.{leb, eqb, ltb}
 use lib.ListN.{length, getD}
 use borrow.Author.Tests.{lt-ltb, le-ltb, ltb-true, ltb-false, le-leb, lt-leb, leb-true, eq-eqb, ne-eqb, eqb-true, eqb-false, not-true, not-false}
 use Rattle.lists.specs.First.{firstFailing}
-use Rattle.lists.proofs.Scan.{Scanned, scanned-all, first-none, first-passes, first-fails}
+use Rattle.lists.proofs.Scan.{Scanned, scanned-all, first-within, first-none, first-passes, first-fails}
 use Rattle.ring.specs.Ring.{q, n}
 use Rattle.ring.specs.Centred.{near?, Within, within?}
 use Rattle.ring.specs.Reciprocals.{nonzero?, hasZero}
@@ -47,13 +47,16 @@ within-iff k a size = (
 
 -- ---- some word is zero
 
-pub zero-stop : (t : List ℕ) (i : ℕ) → i < length t → i ≡ firstFailing nonzero? t → true ≡ hasZero t
+pub zero-scanned : (t : List ℕ) {any : Bool} {i : ℕ} → Scanned nonzero? t (not any) i → length t ≤ i → any ≡ hasZero t
 unfolding hasZero
-zero-stop t i h e = sym (lt-ltb (firstFailing nonzero? t) (length t) (omega arith))
+zero-scanned t {any} s h = by (decLt f (length t))
+  where
+    f : ℕ
+    f = firstFailing nonzero? t
 
-pub zero-end : (t : List ℕ) (i : ℕ) → i ≡ length t → i ≡ firstFailing nonzero? t → false ≡ hasZero t
-unfolding hasZero
-zero-end t i h e = sym (le-ltb (firstFailing nonzero? t) (length t) (omega arith))
+    by : Dec (f < length t) → any ≡ ltb f (length t)
+    by (yes l) = not-false any (scanned-all s h ∙ ne-eqb f (length t) (λ e. omega arith)) ∙ sym (lt-ltb f (length t) l)
+    by (no l) = not-true any (scanned-all s h ∙ eq-eqb f (length t) (omega (arith, first-within nonzero? t))) ∙ sym (le-ltb f (length t) (omega arith))
 
 pub nonzero-true : (x : ℕ) → x % q ≢ 0 → nonzero? x ≡ true
 nonzero-true x h = ap not (ne-eqb (x % q) 0 h)

@@ -45,11 +45,7 @@ pub fn difference(a: [u16; 1024], b: [u16; 1024]) -> [u16; 1024]
 pub fn multiple(c: u16, a: [u16; 1024]) -> [u16; 1024]
     ensures { λ r. ⌜ r ≡ multiple c a ⌝ }
 {
-    let mut r = [0u16; 1024];
-    for k in 0..1024 {
-        r[k] = modq::mul(c, a[k]);
-    }
-    r
+    ntt::multiple(c, a)
 }
 
 // ---- centred values and remainders
@@ -85,10 +81,14 @@ pub fn residue(m: i32) -> u16
     if t < 0 { (t + 59393) as u16 } else { t as u16 }
 }
 
+// In words only: above 29,696 the centred value is y - 59,393, which is y - 29,693 modulo 5; and 3 and 4 stand for - 2 and - 1.
 fn remainder_of(c: u16) -> u16
     ensures { λ r. ⌜ r ≡ remainderOf c ⌝ }
 {
-    residue(centred_remainder(centred(c)))
+    let y = modq::reduce(c);
+    let z = if y <= 29696 { y } else { y - 29693 };
+    let t = z % 5;
+    if t <= 2 { t } else { t + 59388 }
 }
 
 // The remainder by 5 of every centred coefficient.
@@ -108,7 +108,7 @@ pub fn remainders(m: [u16; 1024]) -> [u16; 1024]
 fn is_near(x: u16, k: u16) -> bool
     ensures { λ r. ⌜ r ≡ near? k x ⌝ }
 {
-    let y = x % 59393;
+    let y = modq::reduce(x);
     if y <= k {
         return true;
     }
@@ -129,16 +129,17 @@ pub fn is_within(a: [u16; 1024], k: u16) -> bool
     all
 }
 
-// Whether q divides some entry.
+// Whether q divides some entry. It looks at all of them, as `is_within` does.
 pub fn has_zero(t: [u16; 1024]) -> bool
     ensures { λ r. ⌜ r ≡ hasZero t ⌝ }
 {
+    let mut any = false;
     for j in 0..1024 {
-        if t[j] % 59393 == 0 {
-            return true;
+        if modq::reduce(t[j]) == 0 {
+            any = true;
         }
     }
-    false
+    any
 }
 
 // ---- many reciprocals for the price of one: a heap of products, the reciprocal of its top, and the way back down

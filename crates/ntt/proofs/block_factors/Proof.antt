@@ -1,22 +1,25 @@
 use mathlib.Core.List.{List}
-use Rattle.ntt.proofs.Factors.{power-at}
+use Rattle.ntt.proofs.Factors.{form-at}
 use mathlib.Core.Path.{ap, _∙_}
 use Prim.Native.Nat.{ℕ, _-_, _%_}
 use Rattle.lists.proofs.Fill.{Filled, filled-none, filled-more-by, filled-all}
 use Rattle.lists.specs.Table.{table}
 use Rattle.lists.proofs.Tables.{length-table}
 use Rattle.ntt.specs.Spectrum.{power}
-use Rattle.ntt.specs.Montgomery.{montgomeryForm}
+use Rattle.modq.specs.Montgomery.{montgomeryForm}
 use lib.ListN.{getD}
 use borrow.Author.Needs.{needs}
 use Rattle.ntt.proofs.block_factors.Statement.{statement}
 use Rattle.ntt.proofs.block_factors.Tie as tie
 
 abbrev Inv-loop : tie.InvT-loop
-Inv-loop t e r₀ m₀ r m = Filled 1024 (table 1024 (λ m. montgomeryForm (power (getD e m 0 % 1024)))) r m
+Inv-loop e t r₀ m₀ r m = Filled 1024 (table 1024 (λ m. montgomeryForm (power (getD e m 0 % 1024)))) r m
 
 abbrev μ-loop : tie.MeasureT-loop
-μ-loop t e r₀ m₀ r m = 1024 - m
+μ-loop e t r₀ m₀ r m = 1024 - m
+
+power-forms-requires : tie.Need-power-forms-requires Inv-loop μ-loop
+power-forms-requires c κs = search needs
 
 loop-holds : tie.Need-loop-holds Inv-loop μ-loop
 loop-holds c = filled-none _ _ (length-table 1024 _) (search needs)
@@ -30,17 +33,14 @@ array-read-at c = search needs
 cast-at : tie.Need-cast-at Inv-loop μ-loop
 cast-at c = search needs
 
-mul-to-montgomery : tie.Need-mul-to-montgomery Inv-loop μ-loop
-mul-to-montgomery c = search needs
-
-element-copy-out-to-montgomery : tie.Need-element-copy-out-to-montgomery Inv-loop μ-loop
-element-copy-out-to-montgomery c = search needs
-
-to-montgomery-requires : tie.Need-to-montgomery-requires Inv-loop μ-loop
-to-montgomery-requires c κs = search needs
-
 mul-r : tie.Need-mul-r Inv-loop μ-loop
 mul-r c = search needs
+
+array-read-r : tie.Need-array-read-r Inv-loop μ-loop
+array-read-r c = search needs
+
+mul-r-2 : tie.Need-mul-r-2 Inv-loop μ-loop
+mul-r-2 c = search needs
 
 array-write-r : tie.Need-array-write-r Inv-loop μ-loop
 array-write-r c = search needs
@@ -53,11 +53,10 @@ loop-less c = search needs
 
 loop-again : tie.Need-loop-again Inv-loop μ-loop
 loop-again c =
-    let start = c .before .before .before .before in
-    let m = c .before .before .before .loop .m in
-    let e = getD (start .args .t2) m 0 % 1024 in
-    filled-more-by _ 0 (c .before .before .before .loop .inv) (search needs)
-    (c .to-montgomery .ensures ∙ ap montgomeryForm (ap (λ (l : List ℕ). getD l e 0) (start .pre) ∙ power-at e (search needs)))
+    let at = c .before in
+    let e = getD (at .before .before .args .t1) (at .loop .m) 0 % 1024 in
+    filled-more-by _ 0 (at .loop .inv) (search needs)
+    (ap (λ (l : List ℕ). getD l e 0) (at .before .power-forms .ensures) ∙ form-at e (search needs))
 
 returns : tie.Need-returns Inv-loop μ-loop
 returns c = filled-all (c .before .loop .inv) (search needs)
@@ -68,14 +67,14 @@ block-factors-spec =
     (tie.spec
     Inv-loop
     μ-loop
+    power-forms-requires
     loop-holds
     mul-at
     array-read-at
     cast-at
-    mul-to-montgomery
-    element-copy-out-to-montgomery
-    to-montgomery-requires
     mul-r
+    array-read-r
+    mul-r-2
     array-write-r
     add-m
     loop-less

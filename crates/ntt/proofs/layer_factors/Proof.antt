@@ -1,87 +1,59 @@
+use mathlib.Core.Path.{_≡_, sym, ap, ap₂, _∙_}
+use mathlib.Core.List.{List}
+use Prim.Native.Nat.{ℕ, _+_, _-_, _*_, _%_, _^_}
 use native.Mathlib.Omega.{arith}
-use lib.Pow.{pow-pos}
-use Rattle.ntt.proofs.Factors.{shifted, block-below}
-use mathlib.Core.Path.{_≡_, sym, ap, _∙_}
-use Prim.Native.Nat.{ℕ, _+_, _-_, _*_, _%_, _^_, _<_}
-use lib.ListN.{getD}
-use Rattle.lists.specs.Table.{table}
-use Rattle.lists.proofs.Tables.{length-table}
-use Rattle.lists.proofs.Fill.{Filled, filled-none, filled-more-by, filled-all}
-use Rattle.ntt.specs.Factors.{blockOf}
+use lib.ListN.{length, take, drop}
+use lib.Seq.{length-take-le}
+use Rattle.ntt.proofs.Factors.{shifted}
+use Rattle.ntt.proofs.Repeats.{small, row-of-blocks}
 use borrow.Author.Needs.{needs}
 use Rattle.ntt.proofs.layer_factors.Statement.{statement}
 use Rattle.ntt.proofs.layer_factors.Tie as tie
 
-abbrev Inv-loop : tie.InvT-loop
-Inv-loop w₀ f k n j₀ w j = Filled 512 (table 512 (λ j. getD f (blockOf k j) 0)) w j
+-- the part that is lent has 2^k entries
+first-size : (c : tie.Start) → length (take (1 * 2 ^ c .args .k % 18446744073709551616 - 0) (c .args .w .now)) ≡ 2 ^ c .args .k
+first-size c =
+    let shift : 1 * 2 ^ c .args .k % 18446744073709551616 ≡ 2 ^ c .args .k = shifted (c .args .k) (c .pre .2) in
+    let whole : 1 * 2 ^ c .args .k % 18446744073709551616 - 0 ≡ 2 ^ c .args .k = omega (arith, shift) in
+    length-take-le _ (c .args .w .now) (omega (arith, whole, small (c .args .k) (c .pre .2), c .pre .0)) ∙ whole
 
-abbrev μ-loop : tie.MeasureT-loop
-μ-loop w₀ f k n j₀ w j = 512 - j
-
--- 1 << k
-shift : (c : tie.In-loop Inv-loop μ-loop) → (1 * 2 ^ c .before .before .args .k) % 18446744073709551616 ≡ 2 ^ c .before .before .args .k
-shift c = shifted (c .before .before .args .k) (c .before .before .pre .1)
-
-few : (c : tie.In-loop Inv-loop μ-loop) → blockOf (c .before .before .args .k) (c .before .loop .j) < 1024
-few c = block-below (c .before .before .args .k) (c .before .loop .j) (c .before .before .pre .1)
-
-shl-n : tie.Need-shl-n Inv-loop μ-loop
+shl-n : tie.Need-shl-n
 shl-n c = search needs
 
-loop-holds : tie.Need-loop-holds Inv-loop μ-loop
-loop-holds c = filled-none _ _ (length-table 512 _) (c .pre .0)
+sub-first-factors : tie.Need-sub-first-factors
+sub-first-factors c = search needs
 
-rem-w : tie.Need-rem-w Inv-loop μ-loop
-rem-w c = rw (shift c) (pow-pos (c .before .before .args .k))
+part-first-factors-start : tie.Need-part-first-factors-start
+part-first-factors-start c = search needs
 
-add-w : tie.Need-add-w Inv-loop μ-loop
-add-w c = record { fits = rw (shift c) (omega (arith, few c)) }
+part-first-factors-end : tie.Need-part-first-factors-end
+part-first-factors-end c = rw (shifted (c .before .before .args .k) (c .before .before .pre .2)) (omega (arith, small (c .before .before .args .k) (c .before .before .pre .2), c .before .before .pre .0))
 
-mul-w : tie.Need-mul-w Inv-loop μ-loop
-mul-w c = record { fits = rw (shift c) (omega (arith, few c)) }
+first-factors-requires : tie.Need-first-factors-requires
+first-factors-requires c κs = omega (arith, first-size (c .before .before .before), small (c .before .before .before .args .k) (c .before .before .before .pre .2), c .before .before .before .pre .1)
 
-element-copy-out-w : tie.Need-element-copy-out-w Inv-loop μ-loop
-element-copy-out-w c = rw (shift c) (few c)
+repeat-requires : tie.Need-repeat-requires
+repeat-requires c κs = search needs
 
-mul-w-2 : tie.Need-mul-w-2 Inv-loop μ-loop
-mul-w-2 c = search needs
+same-length : tie.Need-same-length
+same-length c = search needs
 
-slice-write-w : tie.Need-slice-write-w Inv-loop μ-loop
-slice-write-w c = search needs
-
-add-j : tie.Need-add-j Inv-loop μ-loop
-add-j c = search needs
-
-loop-less : tie.Need-loop-less Inv-loop μ-loop
-loop-less c = search needs
-
-loop-again : tie.Need-loop-again Inv-loop μ-loop
-loop-again c =
-    let at = c .before .before in
-    filled-more-by _ 0 (at .loop .inv) (search needs) (ap (λ (n : ℕ). getD (at .before .args .f .now) (n + at .loop .j % n) 0) (shift (c .before)))
-
-same-length : tie.Need-same-length Inv-loop μ-loop
-same-length c = c .before .loop .inv .size ∙ sym (c .before .before .pre .0)
-
-returns : tie.Need-returns Inv-loop μ-loop
-returns c = filled-all (c .before .loop .inv) (search needs)
+returns : tie.Need-returns
+returns c =
+    let start = c .before .before .before .before .before .before .before .before .before .before in
+    let first = c .before .before .before .before .before .before .first-factors .ensures in
+    c .before .before .repeat .ensures
+    ∙ row-of-blocks (start .args .f .now) _ _ (start .args .k) _ (first-size start) (start .pre .2) (start .pre .1) first
 
 pub layer-factors-spec : {M : Type 1} → statement M
 layer-factors-spec =
     tie.close
     (tie.spec
-    Inv-loop
-    μ-loop
     shl-n
-    loop-holds
-    rem-w
-    add-w
-    mul-w
-    element-copy-out-w
-    mul-w-2
-    slice-write-w
-    add-j
-    loop-less
-    loop-again
+    sub-first-factors
+    part-first-factors-start
+    part-first-factors-end
+    first-factors-requires
+    repeat-requires
     same-length
     returns)

@@ -43,7 +43,7 @@ layer-factors-requires : tie.Need-layer-factors-requires Inv-loop μ-loop
 layer-factors-requires c κs =
     let at = c .before .before in
     let start = 512 * at .loop .k in
-    (length-part start (start + 512) (at .loop .r) (omega (arith, at .loop .inv .size)) ∙ omega arith, search needs)
+    (length-part start (start + 512) (at .loop .r) (omega (arith, at .loop .inv .size)) ∙ omega arith, at .before .before .pre, search needs)
 
 add-k : tie.Need-add-k Inv-loop μ-loop
 add-k c = search needs
@@ -57,7 +57,7 @@ loop-again c =
     let k = at .loop .k in
     let ensures = c .before .layer-factors .ensures in
     filled-part (c .before .layer-factors .last .0) (512 * k + 512 - 512 * k) (at .loop .inv)
-    (ap length ensures ∙ length-table 512 _ ∙ omega arith) (omega arith) (omega arith) (ensures ∙ layer-part (at .before .args .f .now) k (search needs))
+    (ap length ensures ∙ length-table 512 _ ∙ omega arith) (omega arith) (omega arith) (ensures ∙ layer-part (at .before .before .args .f .now) k (search needs))
 
 returns : tie.Need-returns Inv-loop μ-loop
 returns c = filled-all (c .before .loop .inv) (omega arith)

@@ -1,36 +1,34 @@
-use mathlib.Core.Path.{_≡_}
+use mathlib.Core.Path.{_≡_, sym, _∙_}
+use mathlib.Core.Bool.{not}
+use mathlib.Core.Logic.{⊎-elim}
 use Prim.Native.Nat.{_-_}
 use native.Mathlib.Omega.{arith}
 use lib.ListN.{length}
 use borrow.Author.Needs.{needs}
-use Rattle.lists.proofs.Scan.{Passed, passed-none, passed-more, passed-stop, passed-all}
+use Rattle.lists.proofs.Scan.{Scanned, scanned-none, scanned-pass, scanned-fail}
 use Rattle.ring.specs.Ring.{n}
 use Rattle.ring.specs.Reciprocals.{nonzero?}
-use Rattle.ring.proofs.Scans.{nonzero-true, nonzero-false, zero-stop, zero-end}
+use Rattle.ring.proofs.Scans.{nonzero-true, nonzero-false, zero-scanned}
 use Rattle.ring.proofs.has_zero.Statement.{statement}
 use Rattle.ring.proofs.has_zero.Tie as tie
 
 abbrev Inv-loop : tie.InvT-loop
-Inv-loop t j₀ j = Passed nonzero? t j
+Inv-loop t any₀ j₀ any j = Scanned nonzero? t (not any) j
 
 abbrev μ-loop : tie.MeasureT-loop
-μ-loop t j₀ j = n - j
+μ-loop t any₀ j₀ any j = n - j
 
 loop-holds : tie.Need-loop-holds Inv-loop μ-loop
-loop-holds c = passed-none _ _
+loop-holds c = scanned-none _ _
 
-mul-if1 : tie.Need-mul-if1 Inv-loop μ-loop
-mul-if1 c = search needs
+mul-reduce : tie.Need-mul-reduce Inv-loop μ-loop
+mul-reduce c = search needs
 
-array-read-if1 : tie.Need-array-read-if1 Inv-loop μ-loop
-array-read-if1 c = search needs
+array-read-reduce : tie.Need-array-read-reduce Inv-loop μ-loop
+array-read-reduce c = search needs
 
-returns : tie.Need-returns Inv-loop μ-loop
-returns c =
-    let at = c .before .before in
-    let t = at .before .args .t1 in
-    let size : length t ≡ n = search needs in
-    zero-stop t (at .loop .j) (omega arith) (passed-stop (at .loop .inv) (omega arith) (nonzero-false _ (c .if1 .taken)))
+reduce-requires : tie.Need-reduce-requires Inv-loop μ-loop
+reduce-requires c κs = search needs
 
 add-j : tie.Need-add-j Inv-loop μ-loop
 add-j c = search needs
@@ -40,16 +38,21 @@ loop-less c = search needs
 
 loop-again : tie.Need-loop-again Inv-loop μ-loop
 loop-again c =
-    let at = c .before .before in
+    let at = c .before .before .before in
+    let inv = at .loop .inv in
     let size : length (at .before .args .t1) ≡ n = search needs in
-    passed-more (at .loop .inv) (omega arith) (nonzero-true _ (c .if1 .left))
+    let residue = sym (c .before .reduce .ensures) in
+    ⊎-elim
+    (λ w. rw (w .1) (scanned-fail inv (omega arith) (nonzero-false _ (residue ∙ w .0 .taken))))
+    (λ w. rw (w .1) (scanned-pass inv (omega arith) (nonzero-true _ (λ e. w .0 .left (sym residue ∙ e)))))
+    (c .if1 .came)
 
-returns-2 : tie.Need-returns-2 Inv-loop μ-loop
-returns-2 c =
+returns : tie.Need-returns Inv-loop μ-loop
+returns c =
     let at = c .before in
     let t = at .before .args .t1 in
     let size : length t ≡ n = search needs in
-    zero-end t (at .loop .j) (omega (arith, at .loop .inv .within)) (passed-all (at .loop .inv) (omega arith))
+    zero-scanned t (at .loop .inv) (omega arith)
 
 pub has-zero-spec : {M : Type 1} → statement M
 has-zero-spec =
@@ -58,10 +61,10 @@ has-zero-spec =
     Inv-loop
     μ-loop
     loop-holds
-    mul-if1
-    array-read-if1
-    returns
+    mul-reduce
+    array-read-reduce
+    reduce-requires
     add-j
     loop-less
     loop-again
-    returns-2)
+    returns)

@@ -1,11 +1,11 @@
 use native.Mathlib.Omega.{arith}
-use Rattle.ntt.proofs.Montgomery.{product-bound}
+use Rattle.modq.proofs.Products.{product-fits}
 use borrow.Author.Needs.{needs}
-use Rattle.ntt.proofs.low.Statement.{statement}
-use Rattle.ntt.proofs.low.Tie as tie
+use Rattle.modq.proofs.low.Statement.{statement}
+use Rattle.modq.proofs.low.Tie as tie
 
 mul-result : tie.Need-mul-result
-mul-result c = record { fits = omega (arith, product-bound (c .args .a) (c .args .b) (search needs) (search needs)) }
+mul-result c = record { fits = omega (arith, product-fits {a = c .args .a} {b = c .args .b} (search needs) (search needs)) }
 
 cast-result : tie.Need-cast-result
 cast-result c = search needs

@@ -1,8 +1,8 @@
 use mathlib.Core.Path.{ap, _∙_}
 use Prim.Native.Nat.{ℕ, _*_, _/_, _%_}
 use borrow.Author.Needs.{needs}
-use Rattle.ntt.proofs.reduction.Statement.{statement}
-use Rattle.ntt.proofs.reduction.Tie as tie
+use Rattle.modq.proofs.reduction.Statement.{statement}
+use Rattle.modq.proofs.reduction.Tie as tie
 
 low-requires : tie.Need-low-requires
 low-requires c κs = search needs

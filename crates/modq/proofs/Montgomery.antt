@@ -2,24 +2,16 @@
 -- low half; so w y / R is `top` less `over`, the high halves of the two products.
 use mathlib.Core.Path.{_≡_, sym, ap, _∙_}
 use Prim.Native.Nat.{ℕ, _+_, _*_, _/_, _%_, _<_, _≤_}
-use native.Mathlib.Nat.{mul-comm, mul-assoc, mod-add-mod, mod-mod, mod-lt, mul-le-mul}
+use native.Mathlib.Nat.{mul-comm, mul-assoc, mod-add-mod, mod-lt, mod-eq-of-lt, mul-le-mul}
 use native.Mathlib.Omega.{arith}
 use Rattle.algebra.specs.Numbers.{addMod, subMod, mulMod}
 use Rattle.algebra.proofs.Residues.{mod-mul-left}
-use Rattle.ntt.specs.Spectrum.{q}
-use Rattle.ntt.specs.Montgomery.{montgomeryForm, fromMontgomery, montgomeryProduct}
-
--- ---- sums and differences modulo q
-
-addMod-assoc : (a b c : ℕ) → addMod q (addMod q a b) c ≡ addMod q a (addMod q b c)
-addMod-assoc a b c = omega arith
+use Rattle.modq.specs.Modulus.{q}
+use Rattle.modq.specs.Montgomery.{montgomeryForm, fromMontgomery, montgomeryProduct}
 
 -- a difference is known by its sum
 subMod-is : (a b c : ℕ) → addMod q c b ≡ a % q → c % q ≡ subMod q a b
 subMod-is a b c e = omega arith
-
-addMod-subMod : (a b : ℕ) → addMod q (subMod q a b) b ≡ a % q
-addMod-subMod a b = omega arith
 
 -- ---- the product
 
@@ -31,9 +23,6 @@ over p = ((p % 65536) * 6145) % 65536 * 59393 / 65536
 
 pub over-less : (p : ℕ) → over p < q
 over-less p = omega arith
-
-pub product-bound : (a b : ℕ) → a < 65536 → b < 65536 → a * b ≤ 65535 * 65535
-product-bound a b h g = mul-le-mul {n₁ = a} {m₁ = b} {n₂ = 65535} {m₂ = 65535} (omega arith) (omega arith)
 
 pub top-less : (w y : ℕ) → w < q → y < 65536 → top (w * y) < q
 top-less w y h g =
@@ -61,23 +50,6 @@ product-is w y =
     mod-mul-left (w * 53824) y q
     ∙ ap (λ (n : ℕ). n % q) (mul-assoc w 53824 y ∙ ap (λ (n : ℕ). w * n) (mul-comm 53824 y) ∙ sym (mul-assoc w y 53824))
 
--- the ways to combine x, h and l where t stands for h - l
-module _ (t h l : ℕ) (a : t < q) (b : h < q) (e : addMod q t l ≡ h % q) where
-  sum-is : addMod q t l ≡ h
-  sum-is = e ∙ omega arith
-
-  of-product : subMod q h l ≡ t
-  of-product = sym (subMod-is h l t e) ∙ omega arith
-
-  of-sum : (x : ℕ) → subMod q (addMod q x h) l ≡ addMod q x t
-  of-sum x = sym (subMod-is (addMod q x h) l (addMod q x t) (addMod-assoc x t l ∙ ap (addMod q x) sum-is ∙ omega arith)) ∙ omega arith
-
-  of-difference : (x : ℕ) → addMod q (subMod q x h) l ≡ subMod q x t
-  of-difference x =
-      sym (mod-mod (subMod q x h + l) q)
-      ∙ subMod-is x t (addMod q (subMod q x h) l)
-      (addMod-assoc (subMod q x h) l t ∙ ap (addMod q (subMod q x h)) (omega (arith, sum-is)) ∙ addMod-subMod x h)
-
 module _ (w y : ℕ) (h : w < q) (g : y < 65536) where
   balance : addMod q (montgomeryProduct w y) (over (w * y)) ≡ top (w * y) % q
   balance =
@@ -87,13 +59,7 @@ module _ (w y : ℕ) (h : w < q) (g : y < 65536) where
   product-less = mod-lt (fromMontgomery w * y) (omega arith)
 
   pub plain : subMod q (top (w * y)) (over (w * y)) ≡ montgomeryProduct w y
-  plain = of-product (montgomeryProduct w y) (top (w * y)) (over (w * y)) product-less (top-less w y h g) balance
-
-  pub added : (x : ℕ) → subMod q (addMod q x (top (w * y))) (over (w * y)) ≡ addMod q x (montgomeryProduct w y)
-  added x = of-sum (montgomeryProduct w y) (top (w * y)) (over (w * y)) product-less (top-less w y h g) balance x
-
-  pub subtracted : (x : ℕ) → addMod q (subMod q x (top (w * y))) (over (w * y)) ≡ subMod q x (montgomeryProduct w y)
-  subtracted x = of-difference (montgomeryProduct w y) (top (w * y)) (over (w * y)) product-less (top-less w y h g) balance x
+  plain = sym (subMod-is (top (w * y)) (over (w * y)) (montgomeryProduct w y) balance) ∙ mod-eq-of-lt product-less
 
 -- ---- constants in Montgomery's form
 
