@@ -527,6 +527,17 @@ fn opened(key: &SecretKey, c1: &Element, c2: &Element, dummy: &[Element; 3], w: 
     (near & ternary).then_some(answer)
 }
 
+// ---- the product alone
+
+pub fn product(a: &[u8], b: &[u8], out: &mut [u8]) -> u32 {
+    if a.len() != 2048 || b.len() != 2048 || out.len() != 2048 {
+        return 1;
+    }
+    let (w, v) = (forward_factors(), backward_factors());
+    put_words(&backward(&pointwise(&forward(&words(a), &w), &forward(&words(b), &w)), &v), out);
+    0
+}
+
 // ---- the calls
 
 pub fn keygen(stream: &[u8], noise_s: &[u8], noise_e: &[u8], public_key: &mut [u8], secret_key: &mut [u8]) -> u32 {

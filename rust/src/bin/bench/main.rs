@@ -3,6 +3,7 @@
 mod botan;
 mod fast;
 mod openssl;
+mod product;
 
 use std::hint::black_box;
 
@@ -113,8 +114,20 @@ impl Records {
         made
     }
 
+    /// The key's a and b.
+    fn elements(&self) -> [&[u8]; 2] {
+        [&self.public_key[5..2053], &self.public_key[2053..]]
+    }
+
     /// Both sides do the same work: the peer writes the same bytes.
     fn agree(&self) {
+        let products = [product::product, fast::product].map(|product: TwoIn| {
+            let [a, b] = self.elements();
+            let mut out = vec![0; 2048];
+            assert_eq!(product(a, b, &mut out), 0);
+            out
+        });
+        assert!(products[0] == products[1], "the products differ");
         let (mut public_key, mut secret_key) = (vec![0; 4101], vec![0; 4357]);
         assert_eq!(fast::keygen(&self.stream, &self.noise_s, &self.noise_e, &mut public_key, &mut secret_key), 0);
         assert!(public_key == self.public_key && secret_key == self.secret_key, "the keys differ");
@@ -165,6 +178,8 @@ fn beside_rust(records: &Records) {
     const ROUNDS: u32 = 150;
     const CALLS: u32 = 10;
     let Records { public_key, secret_key, triple, encapsulation, noise, entry, sealed, dummy_noise, .. } = records;
+    let product = |call| two_in(call, records.elements(), 2048);
+    line("product", in_turn(ROUNDS, CALLS, product(product::product), product(fast::product)));
     let times = in_turn(ROUNDS, CALLS, keygen_of(polka::ffi::keygen, records), keygen_of(fast::keygen, records));
     line("key generation", times);
     let check = |call: fn(&[u8]) -> u32| move || assert_eq!(call(black_box(secret_key)), 0);
@@ -253,7 +268,8 @@ fn machine() -> String {
 fn main() {
     println!("Cycles of the time stamp counter for one call; least of rounds in turn, one thread, one run.");
     println!("Machine: {}.", machine());
-    println!("Ours: the archive {}. Rust: opt-level 3, baseline {}.", env!("POLKA_LINKED"), std::env::consts::ARCH);
+    println!("Ours: the archive {}; for the product target/staticlib/libring_product.a.", env!("POLKA_LINKED"));
+    println!("Rust: opt-level 3, baseline {}.", std::env::consts::ARCH);
     println!("Buffers: the same each round, in cache; tables of factors made once a call on both sides.");
     shake256();
     let records = Records::new();
