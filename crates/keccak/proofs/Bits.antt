@@ -30,12 +30,12 @@ wide-state f h x y hx hy = rw (lane-state f x y hx hy) (h x y hx hy)
 
 -- ---- lanes
 
-rotate-lt : (n v : ℕ) → v < 2 ^ 64 → n < 64 → rotate n v < 2 ^ 64
+pub rotate-lt : (n v : ℕ) → v < 2 ^ 64 → n < 64 → rotate n v < 2 ^ 64
 rotate-lt zero v h l = h
 rotate-lt (suc n) v h l = or-lt 64 _ _ (mod-lt (v * 2 ^ suc n) (pow-pos 64)) (lt-of-le-of-lt (shr-le v (64 - suc n)) h)
 
 -- bit z comes from bit z - n
-rotate-bit : (n z v : ℕ) → v < 2 ^ 64 → n < 64 → z < 64 → bit z (rotate n v) ≡ bit ((z + (64 - n)) % 64) v
+pub rotate-bit : (n z v : ℕ) → v < 2 ^ 64 → n < 64 → z < 64 → bit z (rotate n v) ≡ bit ((z + (64 - n)) % 64) v
 rotate-bit zero z v h l g = let e : (z + (64 - 0)) % 64 ≡ z = omega arith in rw e
 rotate-bit (suc n) z v h l g =
     let from : ℕ = (z + (64 - suc n)) % 64 in
@@ -48,7 +48,7 @@ complement-bit z v h g = bit-not 64 z v h g ∙ omega arith
 module _ (a : State) (w : Wide a) where
   -- ---- theta
 
-  parity-lt : (x : ℕ) → x < 5 → parity a x < 2 ^ 64
+  pub parity-lt : (x : ℕ) → x < 5 → parity a x < 2 ^ 64
   parity-lt x h =
       let lane-lt : (y : ℕ) → y < 5 → lane a x y < 2 ^ 64 = λ y g. w x y h g in
       xor-lt 64 _ _
@@ -58,7 +58,7 @@ module _ (a : State) (w : Wide a) where
   parity-bit : (x z : ℕ) → bit z (parity a x) ≡ parityBit (bits a) x z
   parity-bit x z = rw (bit-xor z, bit-xor z, bit-xor z, bit-xor z)
 
-  theta-wide : Wide (theta a)
+  pub theta-wide : Wide (theta a)
   theta-wide =
       wide-state (λ x y. bitXor (lane a x y) (effect a x))
       (λ x y hx hy.
@@ -74,7 +74,7 @@ module _ (a : State) (w : Wide a) where
 
   -- ---- rho
 
-  rho-wide : Wide (rho a)
+  pub rho-wide : Wide (rho a)
   rho-wide = wide-state (λ x y. rotate (offset x y % 64) (lane a x y)) (λ x y hx hy. rotate-lt (offset x y % 64) _ (w x y hx hy) (mod-lt (offset x y) (omega arith)))
 
   rho-bits : Same (bits (rho a)) (rhoBits (bits a))
@@ -85,7 +85,7 @@ module _ (a : State) (w : Wide a) where
 
   -- ---- pi
 
-  pi-wide : Wide (pi a)
+  pub pi-wide : Wide (pi a)
   pi-wide = wide-state (λ x y. lane a ((x + 3 * y) % 5) x) (λ x y hx hy. w ((x + 3 * y) % 5) x (omega arith) hx)
 
   pi-bits : Same (bits (pi a)) (piBits (bits a))
@@ -202,9 +202,12 @@ rounds-bits (suc n) h a w =
     let (wide, same) = rounds-bits n (omega arith) a w in
     (round-wide (rounds n a) wide n h, then (round-bits (rounds n a) wide n h) (round-same _ _ same n))
 
+pub rounds-wide : (n : ℕ) → n ≤ 24 → (a : State) → Wide a → Wide (rounds n a)
+rounds-wide n h a w = rounds-bits n h a w .0
+
 pub keccak-wide : (a : State) → Wide a → Wide (keccakF a)
 unfolding keccakF
-keccak-wide a w = rounds-bits 24 (omega arith) a w .0
+keccak-wide a w = rounds-wide 24 (omega arith) a w
 
 -- Keccak-p[1600, 24] on lanes is that on bits
 pub keccak-bits : (a : State) → Wide a → Same (bits (keccakF a)) (roundsBits 24 (bits a))

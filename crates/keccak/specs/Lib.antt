@@ -2,3 +2,4 @@
 pub mod Constants
 pub mod Keccak
 pub mod Bits
+pub mod Complementing
