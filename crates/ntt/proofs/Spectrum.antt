@@ -19,8 +19,8 @@ use Rattle.algebra.proofs.PlainProduct.{product-by-residues}
 use Rattle.algebra.proofs.Negacyclic as N
 use Rattle.modq.proofs.Prime.{q-positive, negacyclic-root}
 use Rattle.ntt.specs.Spectrum.{q, degree, ψ, inverseDegree, power, spectrumOf, coefficientsOf, pointwise}
-use Rattle.ntt.specs.Factors.{forwardFactor, backwardFactor}
-use Rattle.ntt.specs.Layers.{forwardLayer, backwardLayer, layers}
+use Rattle.ntt.specs.Factors.{forwardFactor, backwardFactor, backwardLayers}
+use Rattle.ntt.specs.Layers.{forwardLayer, layers}
 use Rattle.ntt.proofs.Join.{forward-join, backward-join}
 use Rattle.ntt.proofs.Scaling.{backward-multiple}
 use Rattle.ntt.proofs.Factors.{forward-factors-are, backward-factors-are}
@@ -74,8 +74,8 @@ module _ (a : List ℕ) (size : length a ≡ degree) where
 
 module _ (v : List ℕ) (size : length v ≡ degree) where
   -- the ten layers, on the values divided by 1024, give the coefficients
-  pub backward-layers-are : layers (λ d. backwardLayer q 512 (backwardFactor (9 - d))) 10 (scale q degree inverseDegree v) ≡ coefficientsOf v
-  unfolding coefficientsOf fromSpectrum
+  pub backward-layers-are : backwardLayers (scale q degree inverseDegree v) ≡ coefficientsOf v
+  unfolding coefficientsOf fromSpectrum backwardLayers
   backward-layers-are =
       backward-join q ψ 1024 1024 9 backwardFactor (scale q degree inverseDegree v) (El.scale-element q q-positive degree inverseDegree v .size) backward-factors-are
       ∙ ap (backwardMod q ψ 1024 1 (λ c l. l) 10 1024) (scale-map degree v size inverseDegree)

@@ -3,7 +3,8 @@ use mathlib.Core.List.{List}
 use Prim.Native.Nat.{ℕ, _+_, _-_, _/_, _%_, _^_}
 use Rattle.lists.specs.Table.{table}
 use Rattle.algebra.specs.Halving.{reversed}
-use Rattle.ntt.specs.Spectrum.{degree, power}
+use Rattle.ntt.specs.Spectrum.{q, degree, power}
+use Rattle.ntt.specs.Layers.{backwardLayer, layers}
 use Rattle.modq.specs.Montgomery.{montgomeryForm}
 
 -- the constant table: 1, ψ, ψ², .., ψ^1023 modulo q
@@ -32,3 +33,7 @@ forwardFactors = table 5120 (λ i. montgomeryForm (forwardFactor (i / 512) (i % 
 
 unfoldable pub backwardFactors : List ℕ
 backwardFactors = table 5120 (λ i. montgomeryForm (backwardFactor (i / 512) (i % 512)))
+
+-- the ten layers of the transform back: the last layer of the forward transform comes first
+unfoldable pub backwardLayers : List ℕ → List ℕ
+backwardLayers a = layers (λ k. backwardLayer q 512 (backwardFactor (9 - k))) 10 a

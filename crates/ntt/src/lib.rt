@@ -10,7 +10,7 @@ ghost use Rattle.algebra.specs.Halving.{reversed};
 ghost use Rattle.algebra.specs.Numbers.{mulMod, Below, reduced, scale};
 ghost use Rattle.modq.specs.Montgomery.{montgomeryForm, fromMontgomery};
 ghost use Rattle.ntt.specs.Spectrum.{q, degree, inverseDegree, power, spectrumOf, coefficientsOf, pointwise};
-ghost use Rattle.ntt.specs.Factors.{powersTable, powerForms, blockOf, forwardFactor, backwardFactor, forwardFactors, backwardFactors};
+ghost use Rattle.ntt.specs.Factors.{powersTable, powerForms, blockOf, forwardFactor, backwardFactor, forwardFactors, backwardFactors, backwardLayers};
 ghost use Rattle.ntt.specs.Layers.{forwardLayer, pairs, halves, unzippedLayer};
 
 // ---- the table of powers
@@ -238,12 +238,13 @@ fn backward_layer(r: &mut [u16], p: &[u16], w: &[u16], k: usize)
     }
 }
 
-// The polynomial with the values a.
-pub fn backward(a: [u16; 1024], w: &[u16]) -> [u16; 1024]
+// Ten layers back.
+fn backward_layers(a: [u16; 1024], w: &[u16]) -> [u16; 1024]
+    requires { ⌜ Below q a ⌝ }
     requires { ⌜ now w ≡ backwardFactors ⌝ }
-    ensures { λ r. ⌜ r ≡ coefficientsOf a ⌝ }
+    ensures { λ r. ⌜ r ≡ backwardLayers a ⌝ }
 {
-    let mut s = divided(a);
+    let mut s = a;
     let mut v = [0u32; 512];
     let mut p = [0u16; 1024];
     for k in 0..10 {
@@ -252,6 +253,14 @@ pub fn backward(a: [u16; 1024], w: &[u16]) -> [u16; 1024]
         backward_layer(&mut s, &p, w, 9 - k);
     }
     s
+}
+
+// The polynomial with the values a.
+pub fn backward(a: [u16; 1024], w: &[u16]) -> [u16; 1024]
+    requires { ⌜ now w ≡ backwardFactors ⌝ }
+    ensures { λ r. ⌜ r ≡ coefficientsOf a ⌝ }
+{
+    backward_layers(divided(a), w)
 }
 
 // ---- products
@@ -278,4 +287,29 @@ pub fn pointwise(a: [u16; 1024], b: [u16; 1024]) -> [u16; 1024]
         r[i] = multiply(a[i], b[i]);
     }
     r
+}
+
+// The same, divided by 1024: 36794 is 2^22 modulo q, so the first product is Montgomery's form of x / 1024.
+fn divided_product(x: u16, y: u16) -> u16
+    ensures { λ r. ⌜ r ≡ mulMod q inverseDegree (mulMod q x y) ⌝ }
+{
+    modq::montgomery_product(modq::montgomery_product(36794, x), y)
+}
+
+fn divided_pointwise(a: [u16; 1024], b: [u16; 1024]) -> [u16; 1024]
+    ensures { λ r. ⌜ r ≡ scale q degree inverseDegree (pointwise a b) ⌝ }
+{
+    let mut r = [0u16; 1024];
+    for i in 0..1024 {
+        r[i] = divided_product(a[i], b[i]);
+    }
+    r
+}
+
+// The polynomial whose values are the products of those in a and b. The division by 1024 is part of these products.
+pub fn backward_product(a: [u16; 1024], b: [u16; 1024], w: &[u16]) -> [u16; 1024]
+    requires { ⌜ now w ≡ backwardFactors ⌝ }
+    ensures { λ r. ⌜ r ≡ coefficientsOf (pointwise a b) ⌝ }
+{
+    backward_layers(divided_pointwise(a, b), w)
 }

@@ -211,7 +211,7 @@ pub fn product_of_spectra(x: [u16; 1024], y: [u16; 1024], backward: &[u16]) -> [
     requires { ⌜ now backward ≡ backwardFactors ⌝ }
     ensures { λ r. ⌜ r ≡ product (coefficientsOf x) (coefficientsOf y) ⌝ }
 {
-    ntt::backward(ntt::pointwise(x, y), backward)
+    ntt::backward_product(x, y, backward)
 }
 
 pub fn product_with(
@@ -225,7 +225,7 @@ pub fn product_with(
 {
     let x = ntt::forward(a, forward);
     let y = ntt::forward(b, forward);
-    ntt::backward(ntt::pointwise(x, y), backward)
+    ntt::backward_product(x, y, backward)
 }
 
 pub fn product(a: [u16; 1024], b: [u16; 1024]) -> [u16; 1024]

@@ -12,22 +12,18 @@ forward-requires c κs = search needs
 forward-requires-2 : tie.Need-forward-requires-2
 forward-requires-2 c κs = search needs
 
-pointwise-requires : tie.Need-pointwise-requires
-pointwise-requires c κs = search needs
-
-backward-requires : tie.Need-backward-requires
-backward-requires c κs = search needs
+backward-product-requires : tie.Need-backward-product-requires
+backward-product-requires c κs = search needs
 
 returns : tie.Need-returns
 returns c =
-    let args = c .before .before .before .before .before .before .args in
+    let args = c .before .before .before .before .before .args in
     let ha : length (args .a) ≡ 1024 = search needs in
     let hb : length (args .b) ≡ 1024 = search needs in
-    c .backward .ensures
-    ∙ ap coefficientsOf (c .before .pointwise .ensures ∙ ap₂ pointwise (c .before .before .before .forward .ensures) (c .before .before .forward2 .ensures))
+    c .backward-product .ensures ∙ ap coefficientsOf (ap₂ pointwise (c .before .before .forward .ensures) (c .before .forward2 .ensures))
     ∙ product-by-transform (args .a) (args .b) ha hb
 
 pub product-with-spec : {M : Type 1} → statement M
 product-with-spec =
     tie.close
-    (tie.spec forward-requires forward-requires-2 pointwise-requires backward-requires returns)
+    (tie.spec forward-requires forward-requires-2 backward-product-requires returns)

@@ -7,21 +7,14 @@ pub type Element = [u16; 1024];
 
 // ---- arithmetic modulo q on words below q
 
-fn add(a: u16, b: u16) -> u16 {
-    let c = Q - b;
-    if c <= a {
-        a - c
-    } else {
-        a.wrapping_add(b)
-    }
+/// b may be q. What is borrowed is chosen before the difference is made.
+fn sub(a: u16, b: u16) -> u16 {
+    let borrowed = if a < b { Q } else { 0 };
+    a.wrapping_add(borrowed).wrapping_sub(b)
 }
 
-fn sub(a: u16, b: u16) -> u16 {
-    if b <= a {
-        a - b
-    } else {
-        a.wrapping_add(Q - b)
-    }
+fn add(a: u16, b: u16) -> u16 {
+    sub(a, Q - b)
 }
 
 fn high(a: u16, b: u16) -> u16 {
@@ -74,15 +67,14 @@ fn factors(exponent: impl Fn(u16) -> u16) -> Factors {
     for m in 2..1024 {
         reversed[m] = reversed[m / 2] / 2 + (m % 2) as u16 * 512;
     }
-    let mut block = [0u16; 1024];
-    for m in 0..1024 {
-        block[m] = to_montgomery(POWERS[usize::from(exponent(reversed[m]) % 1024)]);
-    }
+    let forms = POWERS.map(to_montgomery);
+    let block = reversed.map(|e| forms[usize::from(exponent(e) % 1024)]);
     let mut all = [0u16; 5120];
-    for (k, layer) in all.chunks_exact_mut(512).enumerate() {
+    for (k, row) in all.chunks_exact_mut(512).enumerate() {
         let n = 1 << k;
-        for (j, factor) in layer.iter_mut().enumerate() {
-            *factor = block[n + j % n];
+        row[..n].copy_from_slice(&block[n..2 * n]);
+        for d in k..9 {
+            row.copy_within(..1 << d, 1 << d);
         }
     }
     Factors(all)
@@ -96,15 +88,12 @@ pub fn backward_factors() -> Factors {
     factors(|e| 1024 - e)
 }
 
-fn forward_layer(a: &Element, w: &[u16; 512]) -> Element {
-    let mut r = [0; 1024];
+fn forward_layer(r: &mut Element, a: &Element, w: &[u16; 512]) {
     for j in 0..512 {
-        let (x, y, f) = (a[j], a[512 + j], w[j]);
-        let (upper, lower) = (high(f, y), reduction(f, y));
-        r[2 * j] = sub(add(x, upper), lower);
-        r[2 * j + 1] = add(sub(x, upper), lower);
+        let (x, product) = (a[j], montgomery(w[j], a[512 + j]));
+        r[2 * j] = add(x, product);
+        r[2 * j + 1] = sub(x, product);
     }
-    r
 }
 
 fn layer(w: &Factors, k: usize) -> &[u16; 512] {
@@ -113,36 +102,39 @@ fn layer(w: &Factors, k: usize) -> &[u16; 512] {
 
 pub fn forward(a: &Element, w: &Factors) -> Element {
     let mut s = a.map(|x| if Q <= x { x - Q } else { x });
-    for k in 0..10 {
-        s = forward_layer(&s, layer(w, k));
+    let mut t = [0; 1024];
+    for k in 0..5 {
+        forward_layer(&mut t, &s, layer(w, 2 * k));
+        forward_layer(&mut s, &t, layer(w, 2 * k + 1));
     }
     s
 }
 
-fn unzipped(a: &Element) -> Element {
-    let mut r = [0; 1024];
+/// The entries at even places, then those at odd places, by way of pairs in one number.
+fn unzip(p: &mut Element, v: &mut [u32; 512], a: &Element) {
     for j in 0..512 {
-        r[j] = a[2 * j];
-        r[512 + j] = a[2 * j + 1];
+        v[j] = u32::from(a[2 * j]) + 65536 * u32::from(a[2 * j + 1]);
     }
-    r
+    for j in 0..512 {
+        p[j] = v[j] as u16;
+        p[512 + j] = (v[j] >> 16) as u16;
+    }
 }
 
-fn backward_layer(a: &Element, w: &[u16; 512]) -> Element {
-    let p = unzipped(a);
-    let mut r = [0; 1024];
+fn backward_layer(r: &mut Element, p: &Element, w: &[u16; 512]) {
     for j in 0..512 {
         let (x, y) = (p[j], p[512 + j]);
         r[j] = add(x, y);
         r[512 + j] = montgomery(w[j], sub(y, x));
     }
-    r
 }
 
 pub fn backward(a: &Element, w: &Factors) -> Element {
     let mut s = a.map(|x| montgomery(64, x));
+    let (mut v, mut p) = ([0; 512], [0; 1024]);
     for k in (0..10).rev() {
-        s = backward_layer(&s, layer(w, k));
+        unzip(&mut p, &mut v, &s);
+        backward_layer(&mut s, &p, layer(w, k));
     }
     s
 }
@@ -173,7 +165,7 @@ fn multiple(factor: u16, a: &Element) -> Element {
 }
 
 fn has_zero(a: &Element) -> bool {
-    a.contains(&0)
+    a.iter().fold(false, |any, &x| any | (x == 0))
 }
 
 /// A heap of products, the reciprocal of its top, and the way back down.
@@ -199,19 +191,11 @@ fn within(bound: u16, a: &Element) -> bool {
 
 pub fn remainders(m: &Element) -> Element {
     m.map(|c| {
-        let centred = if c <= 29_696 { i32::from(c) } else { i32::from(c) - i32::from(Q) };
-        let t = centred % 5;
-        let t = if t > 2 {
-            t - 5
-        } else if t < -2 {
-            t + 5
-        } else {
+        let t = if c <= 29_696 { c } else { c - 29_693 } % 5;
+        if t <= 2 {
             t
-        };
-        if t < 0 {
-            (t + i32::from(Q)) as u16
         } else {
-            t as u16
+            t + 59_388
         }
     })
 }
@@ -245,29 +229,51 @@ const ROUND_CONSTANTS: [u64; 24] = [
     0x8000_0000_8000_8008,
 ];
 
-/// Rotation of the lane at x + 5 y.
-const ROTATIONS: [u32; 25] = [0, 1, 62, 28, 27, 36, 44, 6, 55, 20, 3, 10, 43, 25, 39, 41, 45, 15, 21, 8, 18, 2, 61, 56, 14];
+type Lanes = [u64; 25];
 
-fn keccak(a: &mut [u64; 25]) {
-    for constant in ROUND_CONSTANTS {
-        let mut c = [0; 5];
-        for x in 0..5 {
-            c[x] = a[x] ^ a[x + 5] ^ a[x + 10] ^ a[x + 15] ^ a[x + 20];
-        }
-        let mut b = [0; 25];
-        for x in 0..5 {
-            let d = c[(x + 4) % 5] ^ c[(x + 1) % 5].rotate_left(1);
-            for y in 0..5 {
-                b[y + 5 * ((2 * x + 3 * y) % 5)] = (a[x + 5 * y] ^ d).rotate_left(ROTATIONS[x + 5 * y]);
-            }
-        }
-        for y in 0..5 {
-            for x in 0..5 {
-                a[x + 5 * y] = b[x + 5 * y] ^ (!b[(x + 1) % 5 + 5 * y] & b[(x + 2) % 5 + 5 * y]);
-            }
-        }
-        a[0] ^= constant;
+/// D of theta.
+fn effects(a: &Lanes) -> [u64; 5] {
+    let c: [u64; 5] = std::array::from_fn(|x| a[x] ^ a[x + 5] ^ a[x + 10] ^ a[x + 15] ^ a[x + 20]);
+    std::array::from_fn(|x| c[(x + 4) % 5] ^ c[(x + 1) % 5].rotate_left(1))
+}
+
+/// A plane before chi, from places x + 5 y and rotations.
+fn gathered(a: &Lanes, d: &[u64; 5], places: [(usize, u32); 5]) -> [u64; 5] {
+    places.map(|(at, turn)| (a[at] ^ d[at % 5]).rotate_left(turn))
+}
+
+/// A round on a state with six lanes complemented.
+fn round(a: &Lanes, constant: u64) -> Lanes {
+    let d = effects(a);
+    let [b0, b1, b2, b3, b4] = gathered(a, &d, [(4, 27), (5, 36), (11, 10), (17, 15), (23, 56)]);
+    let p3 = [b0 ^ (b1 & b2), b1 ^ (b2 | b3), b2 ^ (!b3 | b4), !b3 ^ (b4 & b0), b4 ^ (b0 | b1)];
+    let [b0, b1, b2, b3, b4] = gathered(a, &d, [(3, 28), (9, 20), (10, 3), (16, 45), (22, 61)]);
+    let p1 = [b0 ^ (b1 | b2), b1 ^ (b2 & b3), b2 ^ (b3 | !b4), b3 ^ (b4 | b0), b4 ^ (b0 & b1)];
+    let [b0, b1, b2, b3, b4] = gathered(a, &d, [(1, 1), (7, 6), (13, 25), (19, 8), (20, 18)]);
+    let p2 = [b0 ^ (b1 | b2), b1 ^ (b2 & b3), b2 ^ (!b3 & b4), !b3 ^ (b4 | b0), b4 ^ (b0 & b1)];
+    let [b0, b1, b2, b3, b4] = gathered(a, &d, [(2, 62), (8, 55), (14, 39), (15, 41), (21, 2)]);
+    let p4 = [b0 ^ (!b1 & b2), !b1 ^ (b2 | b3), b2 ^ (b3 & b4), b3 ^ (b4 | b0), b4 ^ (b0 & b1)];
+    let [b0, b1, b2, b3, b4] = gathered(a, &d, [(0, 0), (6, 44), (12, 43), (18, 21), (24, 14)]);
+    let p0 = [b0 ^ (b1 | b2) ^ constant, b1 ^ (!b2 | b3), b2 ^ (b3 & b4), b3 ^ (b4 | b0), b4 ^ (b0 & b1)];
+    let mut r = [0; 25];
+    for (to, plane) in r.chunks_exact_mut(5).zip([p0, p1, p2, p3, p4]) {
+        to.copy_from_slice(&plane);
     }
+    r
+}
+
+fn complement(a: &mut Lanes) {
+    for at in [1, 2, 8, 12, 17, 20] {
+        a[at] = !a[at];
+    }
+}
+
+fn keccak(a: &mut Lanes) {
+    complement(a);
+    for constants in ROUND_CONSTANTS.chunks_exact(2) {
+        *a = round(&round(a, constants[0]), constants[1]);
+    }
+    complement(a);
 }
 
 fn absorb(state: &mut [u64; 25], block: &[u8; 136]) {
