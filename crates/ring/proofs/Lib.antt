@@ -7,9 +7,9 @@ pub mod Centring
 pub mod RemainderLaws
 -- The worked examples.
 pub mod WorkedExamples
--- For the proofs of the functions: signed values, scans, the heap of products.
+-- For the proofs of the functions: signed values, scans, the tree of products.
 pub mod Signed
 pub mod Scans
-pub mod Heaps
+pub mod Trees
 -- Products and inverses by the transform.
 pub mod Transforms

@@ -7,7 +7,7 @@ use Prim.Native.Nat.{ℕ, _-_, _%_, _<_, _≤_, min}
 use native.Mathlib.Nat.{le-of-eq}
 use native.Mathlib.Decide.{decLe, decLt}
 use native.Mathlib.Omega.{arith}
-use lib.Dec.{leb, eqb, ltb}
+use lib.Dec.{leb, ltb}
 use lib.ListN.{length, getD}
 use borrow.Author.Tests.{lt-ltb, le-ltb, ltb-true, ltb-false, le-leb, lt-leb, leb-true, eq-eqb, ne-eqb, eqb-true, eqb-false, not-true, not-false}
 use Rattle.lists.specs.First.{firstFailing}

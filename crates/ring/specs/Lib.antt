@@ -4,6 +4,6 @@ pub mod Invertible
 pub mod Centred
 pub mod Reciprocals
 -- what the private steps of `reciprocals` keep
-pub mod Heap
+pub mod Tree
 -- the worked examples of document 01
 pub mod Examples

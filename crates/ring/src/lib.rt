@@ -1,7 +1,8 @@
 // The ring of document 01: polynomials with coefficients modulo q = 59,393 and X^1024 = - 1, as arrays of 1,024 words by value.
 // Every word is taken as its residue modulo q, and the public functions are total. A result is built up from 1,024 zeros.
 ghost use mathlib.Core.Path.{_≡_};
-ghost use lib.ListN.{drop};
+ghost use Prim.Native.Nat.{_≤_};
+ghost use lib.ListN.{length, drop};
 ghost use mathlib.Core.Bool.{decide};
 ghost use Rattle.ntt.specs.Spectrum.{coefficientsOf};
 ghost use Rattle.ntt.specs.Factors.{forwardFactors, backwardFactors};
@@ -9,7 +10,7 @@ ghost use Rattle.ring.specs.Ring.{n, one, sum, difference, multiple, pro
 ghost use Rattle.ring.specs.Invertible.{invertible?, inverseOf};
 ghost use Rattle.ring.specs.Centred.{centred, residue, centredRemainder, remainderOf, remainders, near?, within?};
 ghost use Rattle.ring.specs.Reciprocals.{hasZero, reciprocalsOf};
-ghost use Rattle.ring.specs.Heap.{Heap, Inverses};
+ghost use Rattle.ring.specs.Tree.{Multiplied, Tree, Inverted, Inverses};
 
 // ---- sums and multiples
 
@@ -142,9 +143,12 @@ pub fn has_zero(t: [u16; 1024]) -> bool
     any
 }
 
-// ---- many reciprocals for the price of one: a heap of products, the reciprocal of its top, and the way back down
+// ---- many reciprocals for the price of one: a tree of products, the reciprocal of its top, and the way back down
 
-// The entries as the lower half of the heap.
+// Level m of the tree, for m = 1, 2, 4, .., 1,024, is the m entries from m on, and entry m + j stands above 2 m + j and 3 m + j. So a level is
+// made from its neighbour by a loop over entries in a row, and the compiler works on several at a time.
+
+// The entries as the lowest level.
 fn leaves(t: [u16; 1024]) -> [u16; 2048]
     ensures { λ r. ⌜ drop n r ≡ t ⌝ }
 {
@@ -155,33 +159,51 @@ fn leaves(t: [u16; 1024]) -> [u16; 2048]
     h
 }
 
+fn multiply_level(h: &mut [u16; 2048], m: usize)
+    requires { ⌜ (length (now h) ≡ 2048) × (m ≤ 512) ⌝ }
+    ensures { λ _. ⌜ Multiplied m m (now (h .entry)) (now (h .exit)) ⌝ }
+{
+    for j in 0..m {
+        let x = h[2 * m + j];
+        let y = h[3 * m + j];
+        h[m + j] = modq::mul(x, y);
+    }
+}
+
 // Each entry above the leaves is the product of the two below it.
 fn products(l: [u16; 2048]) -> [u16; 2048]
-    ensures { λ r. ⌜ Heap (drop n l) r 1 ⌝ }
+    ensures { λ r. ⌜ Tree (drop n l) r 0 ⌝ }
 {
     let mut h = l;
-    for j in 0..1023 {
-        let k = 1023 - j;
-        let x = h[2 * k];
-        let y = h[2 * k + 1];
-        h[k] = modq::mul(x, y);
+    for k in 0..10usize {
+        multiply_level(&mut h, 1 << (9 - k));
     }
     h
 }
 
-// Entry k is x × y, so the reciprocal of x is that of entry k times y. The top's reciprocal is 0 where it has none, and then so are all.
+// An entry is x × y, so the reciprocal of x is that of the entry times y.
+fn invert_level(r: &mut [u16; 2048], h: &[u16; 2048], m: usize)
+    requires { ⌜ (length (now r) ≡ 2048) × (m ≤ 512) ⌝ }
+    ensures { λ _. ⌜ Inverted m m (now (h .entry)) (now (r .entry)) (now (r .exit)) ⌝ }
+{
+    for j in 0..m {
+        let u = r[m + j];
+        let x = h[2 * m + j];
+        let y = h[3 * m + j];
+        r[2 * m + j] = modq::mul(u, y);
+        r[3 * m + j] = modq::mul(u, x);
+    }
+}
+
+// The top's reciprocal is 0 where it has none, and then so are all.
 fn inverses(h: [u16; 2048]) -> [u16; 2048]
-    requires { ⌜ Heap (drop n h) h 1 ⌝ }
+    requires { ⌜ Tree (drop n h) h 0 ⌝ }
     ensures { λ r. ⌜ Inverses h r n ⌝ }
 {
     let mut r = [0u16; 2048];
     r[1] = modq::reciprocal(h[1]);
-    for k in 1..1024 {
-        let u = r[k];
-        let x = h[2 * k];
-        let y = h[2 * k + 1];
-        r[2 * k] = modq::mul(u, y);
-        r[2 * k + 1] = modq::mul(u, x);
+    for k in 0..10usize {
+        invert_level(&mut r, &h, 1 << k);
     }
     r
 }
@@ -196,7 +218,7 @@ fn lower_half(h: [u16; 2048]) -> [u16; 1024]
     r
 }
 
-// The reciprocal of every entry; 1,024 zeros where q divides one of them, since the top of the heap is then 0.
+// The reciprocal of every entry; 1,024 zeros where q divides one of them, since the top of the tree is then 0.
 pub fn reciprocals(t: [u16; 1024]) -> [u16; 1024]
     ensures { λ r. ⌜ r ≡ reciprocalsOf t ⌝ }
 {

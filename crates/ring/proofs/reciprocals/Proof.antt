@@ -3,7 +3,7 @@ use Prim.Native.Nat.{_*_}
 use lib.ListN.{length}
 use borrow.Author.Needs.{needs}
 use Rattle.ring.specs.Ring.{n}
-use Rattle.ring.proofs.Heaps.{heap-over, heap-alone, reciprocals-are}
+use Rattle.ring.proofs.Trees.{tree-over, tree-alone, reciprocals-are}
 use Rattle.ring.proofs.reciprocals.Statement.{statement}
 use Rattle.ring.proofs.reciprocals.Tie as tie
 
@@ -14,7 +14,7 @@ products-requires : tie.Need-products-requires
 products-requires c κs = search needs
 
 inverses-requires : tie.Need-inverses-requires
-inverses-requires c κs = heap-alone (c .products .ensures)
+inverses-requires c κs = tree-alone (c .products .ensures)
 
 lower-half-requires : tie.Need-lower-half-requires
 lower-half-requires c κs = search needs
@@ -27,7 +27,7 @@ returns c =
     let r = c .before .inverses in
     let size : length t ≡ n = search needs in
     let size-r : length (r .result) ≡ 2 * n = search needs in
-    c .lower-half .ensures ∙ reciprocals-are t (h .result) (r .result) size size-r (heap-over (l .ensures) (h .ensures)) (r .ensures)
+    c .lower-half .ensures ∙ reciprocals-are t (h .result) (r .result) size size-r (tree-over (l .ensures) (h .ensures)) (r .ensures)
 
 pub reciprocals-spec : {M : Type 1} → statement M
 reciprocals-spec =

@@ -1,6 +1,5 @@
 use mathlib.Core.Logic.{inl, inr, ⊎-elim}
 use Prim.Native.Nat.{_%_}
-use native.Mathlib.Omega.{arith}
 use borrow.Author.Needs.{needs}
 use Rattle.ring.specs.Ring.{q}
 use Rattle.ring.proofs.RemainderLaws.{Folded, remainder-low, remainder-high}
