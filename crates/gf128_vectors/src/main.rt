@@ -4,7 +4,6 @@ ghost use mathlib.Core.Path.{_≡_};
 ghost use lib.ListN.{length};
 ghost use Rattle.vectors.specs.Answers.{Tells, Judged};
 ghost use Rattle.gf128_vectors.specs.Cases.{Case, Agrees};
-use vectors::Contents;
 use vectors::Report;
 use vectors::Verdict;
 
@@ -19,23 +18,11 @@ fn block(bytes: &[u8]) -> [u8; 16]
     r
 }
 
-fn is_case(text: &[u8]) -> bool
-    ensures { λ r. ⌜ Tells r (Case (now (text .entry))) ⌝ }
-{
-    if !vectors::has_field(text, 4) {
-        return false;
-    }
-    if vectors::field(text, 0).len() != 16 {
-        return false;
-    }
-    vectors::field(text, 1).len() == 16
-}
-
 fn agrees(text: &[u8]) -> bool
     requires { ⌜ Case (now text) ⌝ }
     ensures { λ r. ⌜ Tells r (Agrees (now (text .entry))) ⌝ }
 {
-    if vectors::word(vectors::field(text, 2)) != 0 {
+    if vectors::number(text, 2) != 0 {
         return false;
     }
     let x = block(vectors::field(text, 0));
@@ -47,7 +34,8 @@ fn agrees(text: &[u8]) -> bool
 fn judge(text: &[u8]) -> Verdict
     ensures { λ r. ⌜ Judged (Case (now (text .entry))) (Agrees (now (text .entry))) r ⌝ }
 {
-    if !is_case(text) {
+    let sizes = [16usize, 16, 4, 0, 16];
+    if !vectors::has_sizes(text, &sizes) {
         return Verdict::Malformed;
     }
     if agrees(text) {
@@ -57,41 +45,22 @@ fn judge(text: &[u8]) -> Verdict
     }
 }
 
-// Each case has five fields.
 fn judge_cases(text: &[u8]) -> Report {
-    let mut left = text.len();
-    let mut agreed = 0;
-    let mut differed = 0;
-    while left > 0 {
-        let at = text.len() - left;
-        let rest = &text[at..];
-        match judge(rest) {
-            Verdict::Agreed => {
-                agreed += 1;
-            }
-            Verdict::Differed => {
-                differed += 1;
-            }
-            Verdict::Malformed => {
-                return Report::Malformed(at);
-            }
-        }
-        left -= vectors::start(rest, 5);
+    let mut report = Report::Counts(0, 0);
+    let mut at = 0;
+    while at < text.len() {
+        let next = vectors::counted(report, judge(&text[at..]), at);
+        report = next;
+        at = vectors::after_case(text, at, 5);
     }
-    Report::Counts(agreed, differed)
-}
-
-fn judge_file(name: &[u8], buffer: &mut [u8]) -> Report {
-    match vectors::read_file(name, buffer) {
-        Contents::Bytes(n) => judge_cases(&buffer[..n]),
-        Contents::TooLong => Report::TooLong,
-        Contents::Missing => Report::Missing,
-    }
+    report
 }
 
 fn check_file(name: &[u8]) {
     let mut buffer = vectors::file_buffer();
-    vectors::print_report(name, judge_file(name, &mut buffer));
+    let read = vectors::read_file(name, &mut buffer);
+    let report = judge_cases(vectors::read_bytes(read, &buffer));
+    vectors::print_report(name, read, report);
 }
 
 fn main() {

@@ -10,7 +10,7 @@ ghost use Rattle.nist_shake256.specs.Lines.{inLine, afterLine, withoutRe
 ghost use Rattle.nist_shake256.specs.Decimal.{decimalOf};
 ghost use Rattle.nist_shake256.specs.Judge.{HexField, Agrees, outputName, Judged};
 ghost use Rattle.nist_shake256.specs.Monte.{outputSize, messageOf, chainOf, turned, turns as Monte·turns};
-use libc::STDOUT_FILENO;
+use vectors::Report;
 
 // ---- lines
 
@@ -382,13 +382,6 @@ fn advance(kind: Kind, c: Chain, n: usize) -> Chain {
     }
 }
 
-enum Report {
-    Counts(usize, usize),
-    Malformed(usize),
-    TooLong,
-    Missing,
-}
-
 // The number of the line at which `left` bytes of the text are left.
 fn line_number(text: &[u8], left: usize) -> usize {
     let mut line = 1;
@@ -471,7 +464,7 @@ fn judge_cases(kind: Kind, text: &[u8], left: usize, number: usize, c: Chain) ->
                     differed += 1;
                 }
                 Verdict::Malformed(bad) => {
-                    return Report::Malformed(line_number(text, bad));
+                    return Report::MalformedLine(line_number(text, bad));
                 }
             }
             let next = advance(kind, last, 1);
@@ -480,9 +473,9 @@ fn judge_cases(kind: Kind, text: &[u8], left: usize, number: usize, c: Chain) ->
         }
     }
     if agreed + differed == 0 {
-        return Report::Malformed(line_number(text, 0));
+        return Report::MalformedLine(line_number(text, 0));
     }
-    Report::Counts(agreed, differed)
+    Report::Counts(agreed as u64, differed as u64)
 }
 
 fn no_chain() -> Chain {
@@ -496,7 +489,7 @@ fn no_chain() -> Chain {
 fn judge_plain(kind: Kind, text: &[u8], name: &[u8]) -> Report {
     let h = read_header(text, name);
     if h.number == 0 {
-        return Report::Malformed(line_number(text, h.left));
+        return Report::MalformedLine(line_number(text, h.left));
     }
     judge_cases(kind, text, h.left, h.number, no_chain())
 }
@@ -509,7 +502,7 @@ fn judge_monte(text: &[u8]) -> Report {
     let rest = &text[at..];
     let mut message = [0u8; 16];
     if least.number != 2 || most.number != 250 || !hex_field(rest, b"Msg = ", 16, &mut message) {
-        return Report::Malformed(line_number(text, rest.len()));
+        return Report::MalformedLine(line_number(text, rest.len()));
     }
     judge_cases(
         Kind::Monte,
@@ -531,87 +524,17 @@ fn judge_file(kind: Kind, text: &[u8]) -> Report {
     }
 }
 
-// 2 MiB of zeros, which hold any of the files whole.
-fn file_buffer() -> [u8; 2097152]
-    ensures { λ r. ⌜ 2097152 ≡ length r ⌝ }
-{
-    [0; 2097152]
-}
-
-// Reads the whole file and judges it. One more read tells whether the file goes on, or cannot be read.
-fn judge_open(kind: Kind, fd: i32) -> Report {
-    let mut buffer = file_buffer();
-    let n = io::read_full(fd, &mut buffer);
-    let mut more = [0u8; 1];
-    let got = libc::read(fd, &mut more);
-    if got < 0 {
-        return Report::Missing;
-    }
-    if got > 0 {
-        return Report::TooLong;
-    }
-    judge_file(kind, &buffer[..n])
-}
-
-fn print_counts(agreed: usize, differed: usize) {
-    io::print_decimal(STDOUT_FILENO, agreed as u64);
-    io::write_all(STDOUT_FILENO, b" agreed, ");
-    io::print_decimal(STDOUT_FILENO, differed as u64);
-    io::write_all(STDOUT_FILENO, b" differed\n");
-}
-
-fn print_malformed(line: usize) {
-    io::write_all(STDOUT_FILENO, b"malformed at line ");
-    io::print_decimal(STDOUT_FILENO, line as u64);
-    io::write_all(STDOUT_FILENO, b"\n");
-}
-
-fn print_report(name: &[u8], r: Report) {
-    io::write_all(STDOUT_FILENO, name);
-    io::write_all(STDOUT_FILENO, b": ");
-    match r {
-        Report::Counts(agreed, differed) => print_counts(agreed, differed),
-        Report::Malformed(line) => print_malformed(line),
-        Report::TooLong => {
-            io::write_all(STDOUT_FILENO, b"too long\n");
-        }
-        Report::Missing => {
-            io::write_all(STDOUT_FILENO, b"missing\n");
-        }
-    }
-}
-
 // Works through one file and prints its line.
 fn check_file(kind: Kind, name: &[u8]) {
-    let fd = os::open_read(name);
-    if fd < 0 {
-        print_report(name, Report::Missing);
-        return;
-    }
-    let r = judge_open(kind, fd);
-    libc::close(fd);
-    print_report(name, r);
-}
-
-fn short_messages() {
-    check_file(Kind::Length, b"SHAKE256ShortMsg.rsp");
-}
-
-fn long_messages() {
-    check_file(Kind::Length, b"SHAKE256LongMsg.rsp");
-}
-
-fn variable_outputs() {
-    check_file(Kind::Output, b"SHAKE256VariableOut.rsp");
-}
-
-fn monte() {
-    check_file(Kind::Monte, b"SHAKE256Monte.rsp");
+    let mut buffer = vectors::file_buffer();
+    let read = vectors::read_file(name, &mut buffer);
+    let report = judge_file(kind, vectors::read_bytes(read, &buffer));
+    vectors::print_report(name, read, report);
 }
 
 fn main() {
-    short_messages();
-    long_messages();
-    variable_outputs();
-    monte();
+    check_file(Kind::Length, b"SHAKE256ShortMsg.rsp");
+    check_file(Kind::Length, b"SHAKE256LongMsg.rsp");
+    check_file(Kind::Output, b"SHAKE256VariableOut.rsp");
+    check_file(Kind::Monte, b"SHAKE256Monte.rsp");
 }

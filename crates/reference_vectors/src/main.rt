@@ -8,7 +8,6 @@ ghost use Rattle.vectors.specs.Answers.{Tells, Judged};
 ghost use Rattle.reference_vectors.specs.Cases.{room, filler, output, OutputAgrees, AnswerAgrees, callAnswer, callOut, sizeField, lastField};
 ghost use Rattle.reference_vectors.specs.Cases.{Case, CheckAgrees, KeysAgree, KeygenAgrees, CallAgrees, residueOf, NoiseAgrees, DeskAgrees, Agrees};
 use records::Answer;
-use vectors::Contents;
 use vectors::Report;
 use vectors::Verdict;
 
@@ -45,7 +44,7 @@ fn output_buffer() -> [u8; 65536]
 fn room(text: &[u8], i: usize) -> usize
     ensures { λ r. ⌜ (r ≡ room i (now (text .entry))) × (r ≤ 65536) ⌝ }
 {
-    let size = vectors::word(vectors::field(text, i)) as usize;
+    let size = vectors::number(text, i) as usize;
     if size < 65536 { size } else { 65536 }
 }
 
@@ -76,7 +75,7 @@ fn check_agrees(text: &[u8]) -> bool
     ensures { λ r. ⌜ Tells r (CheckAgrees (now (text .entry))) ⌝ }
 {
     let answer = polka::check_secret_key(vectors::field(text, 0));
-    records::number(answer) == vectors::word(vectors::field(text, 1))
+    records::number(answer) == vectors::number(text, 1)
 }
 
 // ---- keygen
@@ -85,7 +84,7 @@ fn check_agrees(text: &[u8]) -> bool
 fn keys_agree(text: &[u8], answer: Answer, public: &[u8], secret: &[u8]) -> bool
     ensures { λ r. ⌜ Tells r (KeysAgree (now (text .entry)) answer (now (public .entry)) (now (secret .entry))) ⌝ }
 {
-    let told = vectors::word(vectors::field(text, 5));
+    let told = vectors::number(text, 5);
     if !answer_agrees(answer, told, vectors::field(text, 7), public) {
         return false;
     }
@@ -163,7 +162,7 @@ fn call_agrees(call: Call, text: &[u8], out: &mut [u8]) -> bool
         out,
     );
     let at = size_field(call);
-    let told = vectors::word(vectors::field(text, at + 1));
+    let told = vectors::number(text, at + 1);
     answer_agrees(answer, told, vectors::field(text, at + 3), out)
 }
 
@@ -187,11 +186,11 @@ fn residue(w: u32) -> u64
 fn noise_agrees(text: &[u8]) -> bool
     ensures { λ r. ⌜ Tells r (NoiseAgrees (now (text .entry))) ⌝ }
 {
-    if vectors::word(vectors::field(text, 1)) != 0 {
+    if vectors::number(text, 1) != 0 {
         return false;
     }
     let p = sampling::ternary(vectors::field(text, 0));
-    p[0] as u64 == residue(vectors::word(vectors::field(text, 3)))
+    p[0] as u64 == residue(vectors::number(text, 3))
 }
 
 // ---- the desk
@@ -236,52 +235,31 @@ fn agrees(kind: Kind, text: &[u8]) -> bool
 fn judge(kind: Kind, text: &[u8]) -> Verdict
     ensures { λ r. ⌜ Judged (Case kind (now (text .entry))) (Agrees kind (now (text .entry))) r ⌝ }
 {
-    if !vectors::has_field(text, last_field(kind)) {
-        return Verdict::Malformed;
-    }
-    if agrees(kind, text) {
-        Verdict::Agreed
-    } else {
-        Verdict::Differed
-    }
+    vectors::judged(
+        vectors::has_field(text, last_field(kind)),
+        agrees(kind, text),
+    )
 }
 
 fn judge_cases(kind: Kind, text: &[u8]) -> Report {
-    let mut left = text.len();
-    let mut agreed = 0;
-    let mut differed = 0;
-    while left > 0 {
-        let at = text.len() - left;
-        let rest = &text[at..];
-        match judge(kind, rest) {
-            Verdict::Agreed => {
-                agreed += 1;
-            }
-            Verdict::Differed => {
-                differed += 1;
-            }
-            Verdict::Malformed => {
-                return Report::Malformed(at);
-            }
-        }
-        left -= vectors::start(rest, last_field(kind) + 1);
+    let fields = last_field(kind) + 1;
+    let mut report = Report::Counts(0, 0);
+    let mut at = 0;
+    while at < text.len() {
+        let next = vectors::counted(report, judge(kind, &text[at..]), at);
+        report = next;
+        at = vectors::after_case(text, at, fields);
     }
-    Report::Counts(agreed, differed)
+    report
 }
 
 // ---- files
 
-fn judge_file(kind: Kind, name: &[u8], buffer: &mut [u8]) -> Report {
-    match vectors::read_file(name, buffer) {
-        Contents::Bytes(n) => judge_cases(kind, &buffer[..n]),
-        Contents::TooLong => Report::TooLong,
-        Contents::Missing => Report::Missing,
-    }
-}
-
 fn check_file(kind: Kind, name: &[u8]) {
     let mut buffer = vectors::file_buffer();
-    vectors::print_report(name, judge_file(kind, name, &mut buffer));
+    let read = vectors::read_file(name, &mut buffer);
+    let report = judge_cases(kind, vectors::read_bytes(read, &buffer));
+    vectors::print_report(name, read, report);
 }
 
 fn check_key_files() {

@@ -1,25 +1,16 @@
--- The definitions of `specs/Fields.antt`.
+-- Words in two's complement.
 use mathlib.Core.Path.{_≡_, refl, sym, ap, _∙_}
-use mathlib.Core.List.{List}
-use Prim.Native.Nat.{ℕ, zero, suc, _+_, _-_, _*_, _≤_, _<_}
+use Prim.Native.Nat.{ℕ, zero, suc, _+_, _-_, _≤_, _<_}
 use native.Mathlib.Omega.{arith}
+use mathlib.Core.Bool.{Bool}
 use lib.IntN.{ℤ, pos, negsuc, _-ℤ_}
-use lib.ListN.{length, getD}
 use borrow.Author.Tests.{lt-ltb, le-ltb}
 use mir.Syntax.{w32}
 use mir.Val.{SFits, toZ, ofZ}
 use mir.ValLaws.{toZ-pos, toZ-ofZ}
-use Rattle.lists.proofs.Tables.{length-table, getD-table}
-use Rattle.ring.specs.Ring.{n}
-use Rattle.ring_vectors.specs.Fields.{word16, signed, raised, elementAt}
-
-pub length-element : (text : List ℕ) (at : ℕ) → length (elementAt text at) ≡ n
-unfolding elementAt
-length-element text at = length-table n _
-
-pub element-entry : (text : List ℕ) (at k : ℕ) → k < n → getD (elementAt text at) k 0 ≡ word16 text (at + 2 * k)
-unfolding elementAt
-element-entry text at k h = getD-table n _ k 0 h
+use Rattle.vectors.specs.Answers.{Tells}
+use Rattle.vectors.proofs.Answers.{tells-as}
+use Rattle.ring_vectors.specs.Cases.{signed, raised}
 
 pub raised-low : (x : ℕ) → x < 2147483648 → raised x ≡ x + 2147483648
 unfolding raised
@@ -54,3 +45,8 @@ module _ (x : ℕ) (high : 2147483648 ≤ x) where
 -- two integers with the same bits
 pub same-bits : (a b : ℤ) → SFits w32 a → SFits w32 b → ofZ w32 a ≡ ofZ w32 b → a ≡ b
 same-bits a b f g e = sym (toZ-ofZ w32 a f) ∙ ap (toZ w32) e ∙ toZ-ofZ w32 b g
+
+-- the answer to an equation of integers that went through their bits
+pub tells-integers : {a b x y : ℤ} (r : Bool) → SFits w32 a → SFits w32 b → a ≡ x → b ≡ y
+    → Tells r (toZ w32 (ofZ w32 a) ≡ toZ w32 (ofZ w32 b)) → Tells r (x ≡ y)
+tells-integers {a} {b} r f g p q t = tells-as r (toZ-ofZ w32 a f ∙ p) (toZ-ofZ w32 b g ∙ q) t

@@ -1,3 +1,2 @@
 -- Laws of answers and of cases.
 pub mod Choices
-pub mod Judging

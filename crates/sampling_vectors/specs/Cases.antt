@@ -10,8 +10,6 @@ use Rattle.encoding.specs.Codes.{ternaryBytes}
 use Rattle.sampling.specs.Noise.{ternaryNoise}
 use Rattle.sampling.specs.Stream.{taken, uniformElement}
 use Rattle.vectors.specs.Fields.{word32, field}
-use Rattle.sampling_vectors.specs.declared.Verdict.{Verdict}
-use Rattle.sampling_vectors.specs.declared.Verdict.the-variants.{Agreed, Differed, PassedOver}
 
 -- the stream gives the a of a public key, which stands behind the header
 abbrev pub ElementAgrees : List ℕ → List ℕ → Type 0
@@ -39,12 +37,9 @@ CaseAgrees number stream noise public secret =
 abbrev pub Fitting : (stream noise : List ℕ) → Type 0
 Fitting stream noise = (length stream ≡ 2688) × (length noise ≡ 512)
 
--- a case is judged by its fields where the first two fit
-abbrev pub Judged : List ℕ → Verdict → Type 0
-Judged text Agreed =
-    Fitting (field 0 text) (field 1 text)
-    × CaseAgrees (word32 (field 5 text)) (field 0 text) (field 1 text) (field 7 text) (field 8 text)
-Judged text Differed =
-    Fitting (field 0 text) (field 1 text)
-    × (CaseAgrees (word32 (field 5 text)) (field 0 text) (field 1 text) (field 7 text) (field 8 text) → ⊥)
-Judged text PassedOver = Fitting (field 0 text) (field 1 text) → ⊥
+-- of the fields of a case
+abbrev pub Fits : List ℕ → Type 0
+Fits text = Fitting (field 0 text) (field 1 text)
+
+abbrev pub Agrees : List ℕ → Type 0
+Agrees text = CaseAgrees (word32 (field 5 text)) (field 0 text) (field 1 text) (field 7 text) (field 8 text)

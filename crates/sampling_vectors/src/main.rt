@@ -6,10 +6,11 @@ ghost use Prim.Native.Nat.{_<_};
 ghost use lib.ListN.{length};
 ghost use Rattle.sampling.specs.Noise.{noiseCoefficient};
 ghost use Rattle.sampling.specs.Stream.{taken};
-ghost use Rattle.vectors.specs.Answers.{Tells};
-ghost use Rattle.sampling_vectors.specs.Cases.{ElementAgrees, NoiseAgrees, KeysAgree, CaseAgrees, Fitting, Judged};
+ghost use Rattle.vectors.specs.Answers.{Tells, Judged};
+ghost use Rattle.sampling_vectors.specs.Cases.{ElementAgrees, NoiseAgrees, KeysAgree, CaseAgrees, Fitting, Fits, Agrees};
 use libc::STDIN_FILENO;
 use libc::STDOUT_FILENO;
+use vectors::Verdict;
 
 // ---- a case
 
@@ -78,30 +79,18 @@ fn fitting(stream: &[u8], noise: &[u8]) -> bool
     noise.len() == 512
 }
 
-enum Verdict {
-    Agreed,
-    Differed,
-    // Key making refuses a buffer of another length, which is no matter of sampling.
-    PassedOver,
-}
-
-// Judges the first case of the text.
+// Judges the first case of the text. A case with other lengths counts as malformed: key making refuses it, which is no matter of sampling.
 fn judge(text: &[u8]) -> Verdict
-    ensures { λ r. ⌜ Judged (now (text .entry)) r ⌝ }
+    ensures { λ r. ⌜ Judged (Fits (now (text .entry))) (Agrees (now (text .entry))) r ⌝ }
 {
     let stream = vectors::field(text, 0);
     let noise = vectors::field(text, 1);
-    if !fitting(stream, noise) {
-        return Verdict::PassedOver;
-    }
-    let number = vectors::word(vectors::field(text, 5));
     let public = vectors::field(text, 7);
     let secret = vectors::field(text, 8);
-    if agrees(number, stream, noise, public, secret) {
-        Verdict::Agreed
-    } else {
-        Verdict::Differed
-    }
+    vectors::judged(
+        fitting(stream, noise),
+        agrees(vectors::number(text, 5), stream, noise, public, secret),
+    )
 }
 
 struct Counts {
@@ -111,25 +100,23 @@ struct Counts {
 }
 
 fn judge_cases(text: &[u8]) -> Counts {
-    let mut left = text.len();
+    let mut at = 0;
     let mut agreed = 0;
     let mut differed = 0;
     let mut passed_over = 0;
-    while left > 0 {
-        let at = text.len() - left;
-        let rest = &text[at..];
-        match judge(rest) {
+    while at < text.len() {
+        match judge(&text[at..]) {
             Verdict::Agreed => {
                 agreed += 1;
             }
             Verdict::Differed => {
                 differed += 1;
             }
-            Verdict::PassedOver => {
+            Verdict::Malformed => {
                 passed_over += 1;
             }
         }
-        left -= vectors::start(rest, 9);
+        at = vectors::after_case(text, at, 9);
     }
     Counts {
         agreed: agreed,

@@ -1,14 +1,10 @@
 -- Answers that tell whether something holds.
 use mathlib.Core.Path.{_≡_, refl, sym, subst, _∙_}
 use mathlib.Core.Bool.{Bool, true, false, false≢true}
-use mathlib.Core.List.{List}
-use Prim.Native.Nat.{ℕ, _≤_}
+use Prim.Native.Nat.{ℕ}
 use lib.Dec.{eqb}
-use lib.ListN.{length}
 use borrow.Author.Tests.{eqb-true, eq-eqb}
-use Rattle.vectors.specs.declared.Contents.{Contents}
-use Rattle.vectors.specs.declared.Contents.the-variants.{Bytes}
-use Rattle.vectors.specs.Answers.{Tells, Within}
+use Rattle.vectors.specs.Answers.{Tells, Judged, verdictOf}
 
 pub tells-no : {P : Type 0} → (P → ⊥) → Tells false P
 tells-no h = (λ e. absurd (false≢true e), λ p. absurd (h p))
@@ -28,6 +24,10 @@ tells-by r f g t = (λ e. f (t .0 e), λ q. t .1 (g q))
 pub tells-as : {A : Type 0} {a b x y : A} (r : Bool) → a ≡ x → b ≡ y → Tells r (a ≡ b) → Tells r (x ≡ y)
 tells-as r p q t = (λ e. sym p ∙ t .0 e ∙ q, λ e. t .1 (p ∙ e ∙ sym q))
 
+-- the answer to P of what is known to be k
+pub tells-of : {K : Type 0} (P : K → Type 0) (k : K) {x : K} (r : Bool) → x ≡ k → Tells r (P k) → Tells r (P x)
+tells-of {K} P k r e t = subst (λ (j : K). Tells r (P j)) (sym e) t
+
 -- the answer to Q is that to both where P holds
 pub tells-both : {P Q : Type 0} (r : Bool) → P → Tells r Q → Tells r (P × Q)
 tells-both r p t = (λ e. (p, t .0 e), λ a. t .1 (a .1))
@@ -35,6 +35,8 @@ tells-both r p t = (λ e. (p, t .0 e), λ a. t .1 (a .1))
 pub tells-equal : (a b : ℕ) → Tells (eqb a b) (a ≡ b)
 tells-equal a b = (eqb-true a b, eq-eqb a b)
 
--- the bytes that were read fit the buffer
-pub within-bytes : (r : Contents) (n : ℕ) (buffer : List ℕ) → Within r buffer → r ≡ Bytes n → n ≤ length buffer
-within-bytes r n buffer w e = subst (λ (k : Contents). Within k buffer) e w
+-- the verdict by two answers
+pub judged : {Case Agrees : Type 0} (sound agrees : Bool) → Tells sound Case → Tells agrees Agrees → Judged Case Agrees (verdictOf sound agrees)
+judged false agrees s t = told-no false s refl
+judged true false s t = (s .0 refl, told-no false t refl)
+judged true true s t = (s .0 refl, t .0 refl)

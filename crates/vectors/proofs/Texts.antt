@@ -1,6 +1,5 @@
 -- The fields of a text.
 use mathlib.Core.Path.{_≡_, sym, ap, _∙_}
-use mathlib.Core.Bool.{true}
 use mathlib.Core.List.{List}
 use Prim.Native.Nat.{ℕ, zero, suc, _+_, _-_, _≤_, _<_, min}
 use native.Mathlib.Decide.{decLe}
@@ -8,9 +7,8 @@ use native.Mathlib.Numerals.{add-one}
 use native.Mathlib.Omega.{arith}
 use lib.ListN.{length, take, drop, length-drop, drop-of-length-le}
 use lib.Seq.{take-all, take-nil}
-use borrow.Author.Tests.{leb-true, le-leb}
 use Rattle.lists.proofs.Parts.{take-to-end}
-use Rattle.vectors.specs.Fields.{endFrom, start, hasField}
+use Rattle.vectors.specs.Fields.{endFrom, start}
 
 pub start-within : (i : ℕ) (text : List ℕ) → start i text ≤ length text
 unfolding start
@@ -20,6 +18,14 @@ start-within (suc i) text = omega arith
 pub start-next : (i : ℕ) (text : List ℕ) → min (endFrom (start i text) text) (length text) ≡ start (i + 1) text
 unfolding start
 start-next i text = ap (λ (k : ℕ). start k text) (sym (add-one i))
+
+-- the front of a text, cut off at its end
+pub take-cut : (n : ℕ) (text : List ℕ) → take (min n (length text)) text ≡ take n text
+take-cut n text = by (decLe n (length text))
+  where
+    by : Dec (n ≤ length text) → take (min n (length text)) text ≡ take n text
+    by (yes within) = let whole : min n (length text) ≡ n = omega arith in rw whole
+    by (no past) = take-all (min n (length text)) text (omega arith) ∙ sym (take-all n text (omega arith))
 
 -- a part of a text from a to b, both cut off at its end
 pub part-cut : (a n : ℕ) (text : List ℕ) → take (min (a + n) (length text) - min a (length text)) (drop (min a (length text)) text) ≡ take n (drop a text)
@@ -41,13 +47,7 @@ part-cut a n text = by (decLe a (length text)) (decLe (a + n) (length text))
         rw (e, size) (take-to-end a text ∙ sym (take-all n (drop a text) (omega (arith, length-drop a text))))
 
 -- a text that is not empty has a first field, or what stands for it
-pub start-some : (i : ℕ) (text : List ℕ) → 0 < length text → 0 < start (suc i) text
+pub start-some : (i : ℕ) (text : List ℕ) → 0 < length text → 0 < i → 0 < start i text
 unfolding start
-start-some i text h = omega arith
-
--- what `hasField` says of the fields before
-pub has-earlier : (i : ℕ) (text : List ℕ) → hasField (suc i) text ≡ true → hasField i text ≡ true
-unfolding hasField start
-has-earlier i text h =
-    let l = leb-true (endFrom (start (suc i) text) text) (length text) h in
-    le-leb (endFrom (start i text) text) (length text) (omega arith)
+start-some zero text h z = absurd (omega arith)
+start-some (suc i) text h z = omega arith

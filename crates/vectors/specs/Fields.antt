@@ -1,8 +1,9 @@
 -- Files of test vectors: fields one behind the other. Each is the length of its bytes, as a word of four bytes, and then the bytes. Words
 -- have their low byte first. Every definition takes any text; in a word, bytes past the end of the text count as zero.
-use mathlib.Core.Bool.{Bool}
+use mathlib.Core.Path.{_≡_}
+use mathlib.Core.Bool.{Bool, true}
 use mathlib.Core.List.{List}
-use Prim.Native.Nat.{ℕ, zero, suc, _+_, _*_, min}
+use Prim.Native.Nat.{ℕ, zero, suc, _+_, _*_, _<_, min}
 use lib.Dec.{leb}
 use lib.ListN.{length, getD, take, drop}
 
@@ -26,3 +27,11 @@ field i text = take (word32 (drop (start i text) text)) (drop (start i text + 4)
 -- whether field i stands whole in the text, as then every field before it does
 unfoldable pub hasField : ℕ → List ℕ → Bool
 hasField i text = leb (endFrom (start i text) text) (length text)
+
+-- the text starts with whole fields of these sizes
+abbrev pub Sized : List ℕ → List ℕ → Type 0
+Sized sizes text = (i : ℕ) → i < length sizes → (hasField i text ≡ true) × (length (field i text) ≡ getD sizes i 0)
+
+-- where the case of so many fields ends that starts at a place
+abbrev pub afterCase : ℕ → ℕ → List ℕ → ℕ
+afterCase fields at text = at + start fields (drop at text)

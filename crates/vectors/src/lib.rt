@@ -1,10 +1,10 @@
 // What programs over files of test vectors share: the fields of a file, the verdict on a case, reading a file whole, and its line of report.
 ghost use mathlib.Core.Path.{_≡_};
 ghost use Rattle.lists.specs.Table.{zeros};
-ghost use Prim.Native.Nat.{_+_, _*_, _≤_, min};
+ghost use Prim.Native.Nat.{_+_, _*_, _≤_, _<_, min};
 ghost use lib.ListN.{length, getD, replicate};
-ghost use Rattle.vectors.specs.Fields.{word32, endFrom, start, field, hasField};
-ghost use Rattle.vectors.specs.Answers.{Tells, Within};
+ghost use Rattle.vectors.specs.Fields.{word32, endFrom, start, field, hasField, Sized, afterCase};
+ghost use Rattle.vectors.specs.Answers.{Tells, verdictOf, Within, bytesRead, oneMore, counted};
 use libc::STDOUT_FILENO;
 
 // ---- fields
@@ -28,7 +28,7 @@ fn join4(b0: u8, b1: u8, b2: u8, b3: u8) -> u32
 }
 
 // The word that a text starts with; of the bytes of a field, the number that it holds.
-pub fn word(text: &[u8]) -> u32
+fn word(text: &[u8]) -> u32
     ensures { λ r. ⌜ r ≡ word32 (now (text .entry)) ⌝ }
 {
     join4(byte(text, 0), byte(text, 1), byte(text, 2), byte(text, 3))
@@ -43,7 +43,7 @@ fn end_from(text: &[u8], at: usize) -> usize
 }
 
 // Where field i starts: the bytes of the fields before it.
-pub fn start(text: &[u8], i: usize) -> usize
+fn start(text: &[u8], i: usize) -> usize
     ensures { λ r. ⌜ (r ≡ start i (now (text .entry))) × (r ≤ length (now (text .entry))) ⌝ }
 {
     let mut at = 0;
@@ -63,11 +63,41 @@ pub fn field(text: &[u8], i: usize) -> &[u8]
     &text[first..end]
 }
 
+// The number that field i holds.
+pub fn number(text: &[u8], i: usize) -> u32
+    ensures { λ r. ⌜ r ≡ word32 (field i (now (text .entry))) ⌝ }
+{
+    word(field(text, i))
+}
+
 // Whether the text starts with fields 0 to i.
 pub fn has_field(text: &[u8], i: usize) -> bool
     ensures { λ r. ⌜ r ≡ hasField i (now (text .entry)) ⌝ }
 {
     end_from(text, start(text, i)) <= text.len()
+}
+
+// Whether the text starts with whole fields of these sizes.
+pub fn has_sizes(text: &[u8], sizes: &[usize]) -> bool
+    ensures { λ r. ⌜ Tells r (Sized (now (sizes .entry)) (now (text .entry))) ⌝ }
+{
+    for k in 0..sizes.len() {
+        if !has_field(text, k) {
+            return false;
+        }
+        if field(text, k).len() != sizes[k] {
+            return false;
+        }
+    }
+    true
+}
+
+// Where the case that starts at a place ends: so many fields on.
+pub fn after_case(text: &[u8], at: usize, fields: usize) -> usize
+    requires { ⌜ (at < length (now text)) × (0 < fields) ⌝ }
+    ensures { λ r. ⌜ (r ≡ afterCase fields at (now (text .entry))) × (at < r) × (r ≤ length (now (text .entry))) ⌝ }
+{
+    at + start(&text[at..], fields)
 }
 
 pub fn same(a: &[u8], b: &[u8]) -> bool
@@ -112,6 +142,61 @@ pub enum Verdict {
     Agreed,
     Differed,
     Malformed,
+}
+
+// The verdict by whether the case is whole and of its kind, and whether it agrees.
+pub fn judged(sound: bool, agrees: bool) -> Verdict
+    ensures { λ v. ⌜ v ≡ verdictOf sound agrees ⌝ }
+{
+    if sound {
+        if agrees {
+            Verdict::Agreed
+        } else {
+            Verdict::Differed
+        }
+    } else {
+        Verdict::Malformed
+    }
+}
+
+// What is said of the cases of a file: how many agreed and how many differed, or where one is that is not whole or not of its kind.
+pub enum Report {
+    Counts(u64, u64),
+    // The byte at which the first such case starts.
+    MalformedByte(usize),
+    // The line, in a file of text.
+    MalformedLine(usize),
+}
+
+fn one_more(count: u64) -> u64
+    ensures { λ r. ⌜ r ≡ oneMore count ⌝ }
+{
+    if count < 18446744073709551615 {
+        count + 1
+    } else {
+        18446744073709551615
+    }
+}
+
+fn add_to_counts(agreed: u64, differed: u64, verdict: Verdict, at: usize) -> Report
+    ensures { λ r. ⌜ r ≡ counted (Report.Counts agreed differed) verdict at ⌝ }
+{
+    match verdict {
+        Verdict::Agreed => Report::Counts(one_more(agreed), differed),
+        Verdict::Differed => Report::Counts(agreed, one_more(differed)),
+        Verdict::Malformed => Report::MalformedByte(at),
+    }
+}
+
+// The report with one case more, which starts at a byte.
+pub fn counted(report: Report, verdict: Verdict, at: usize) -> Report
+    ensures { λ r. ⌜ r ≡ counted report verdict at ⌝ }
+{
+    match report {
+        Report::Counts(agreed, differed) => add_to_counts(agreed, differed, verdict, at),
+        Report::MalformedByte(place) => Report::MalformedByte(place),
+        Report::MalformedLine(place) => Report::MalformedLine(place),
+    }
 }
 
 // ---- files
@@ -159,43 +244,59 @@ pub fn read_file(name: &[u8], buffer: &mut [u8]) -> Contents
     r
 }
 
-// ---- reports
-
-// What is said of a file: how many cases agreed and how many differed, or what is wrong with it.
-pub enum Report {
-    Counts(u64, u64),
-    // At which byte a case starts that is not whole or not of its kind.
-    Malformed(usize),
-    TooLong,
-    Missing,
+// The bytes of a file that was read into the front of a buffer; none where it was not.
+pub fn read_bytes(read: Contents, buffer: &[u8]) -> &[u8]
+    ensures { λ r. ⌜ now r ≡ bytesRead read (now (buffer .entry)) ⌝ }
+{
+    match read {
+        Contents::Bytes(n) => &buffer[..lesser(n, buffer.len())],
+        Contents::TooLong => &buffer[..0],
+        Contents::Missing => &buffer[..0],
+    }
 }
 
+// ---- the line of a file
+
+fn print_malformed(at: &[u8], place: usize) {
+    io::write_all(STDOUT_FILENO, b"malformed at ");
+    io::write_all(STDOUT_FILENO, at);
+    io::print_decimal(STDOUT_FILENO, place as u64);
+    io::write_all(STDOUT_FILENO, b"\n");
+}
+
+// A file without a case is malformed from its start.
 fn print_counts(agreed: u64, differed: u64) {
+    if agreed == 0 && differed == 0 {
+        print_malformed(b"byte ", 0);
+        return;
+    }
     io::print_decimal(STDOUT_FILENO, agreed);
     io::write_all(STDOUT_FILENO, b" agreed, ");
     io::print_decimal(STDOUT_FILENO, differed);
     io::write_all(STDOUT_FILENO, b" differed\n");
 }
 
-fn print_malformed(at: usize) {
-    io::write_all(STDOUT_FILENO, b"malformed at byte ");
-    io::print_decimal(STDOUT_FILENO, at as u64);
-    io::write_all(STDOUT_FILENO, b"\n");
+fn print_judged(r: Report) {
+    match r {
+        Report::Counts(agreed, differed) => print_counts(agreed, differed),
+        Report::MalformedByte(at) => print_malformed(b"byte ", at),
+        Report::MalformedLine(at) => print_malformed(b"line ", at),
+    }
 }
 
-// Prints the line of a file. What stands on the standard output no contract can say; what is lent stays as it was.
-pub fn print_report(name: &[u8], r: Report)
+// Prints the line of a file: the report, where it was read. What stands on the standard output no contract can say; what is lent stays
+// as it was.
+pub fn print_report(name: &[u8], read: Contents, r: Report)
     ensures { λ _. ⌜ now (name .exit) ≡ now (name .entry) ⌝ }
 {
     io::write_all(STDOUT_FILENO, name);
     io::write_all(STDOUT_FILENO, b": ");
-    match r {
-        Report::Counts(agreed, differed) => print_counts(agreed, differed),
-        Report::Malformed(at) => print_malformed(at),
-        Report::TooLong => {
+    match read {
+        Contents::Bytes(_) => print_judged(r),
+        Contents::TooLong => {
             io::write_all(STDOUT_FILENO, b"too long\n");
         }
-        Report::Missing => {
+        Contents::Missing => {
             io::write_all(STDOUT_FILENO, b"missing\n");
         }
     }

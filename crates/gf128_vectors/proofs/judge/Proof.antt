@@ -4,24 +4,35 @@ use borrow.Author.Needs.{needs}
 use Rattle.gf128_vectors.proofs.judge.Statement.{statement}
 use Rattle.gf128_vectors.proofs.judge.Tie as tie
 
-is-case-requires : tie.Need-is-case-requires
-is-case-requires c κs = search needs
+slice-aggregate-has-sizes : tie.Need-slice-aggregate-has-sizes
+slice-aggregate-has-sizes c = search needs
+
+has-sizes-requires : tie.Need-has-sizes-requires
+has-sizes-requires c κs = search needs
 
 returns : tie.Need-returns
-returns c = told-no _ (c .before .is-case .ensures) (not-true _ (c .if1 .taken))
+returns c = told-no _ (c .before .has-sizes .ensures) (not-true _ (c .if1 .taken))
 
 agrees-requires : tie.Need-agrees-requires
-agrees-requires c κs = c .before .is-case .ensures .0 (not-false _ (c .if1 .left))
+agrees-requires c κs = c .before .has-sizes .ensures .0 (not-false _ (c .if1 .left))
 
 returns-2 : tie.Need-returns-2
 returns-2 c =
     let sound = c .before .before in
-    (sound .before .is-case .ensures .0 (not-false _ (sound .if1 .left)), c .before .agrees .ensures .0 (c .if2 .taken))
+    (sound .before .has-sizes .ensures .0 (not-false _ (sound .if1 .left)), c .before .agrees .ensures .0 (c .if2 .taken))
 
 returns-3 : tie.Need-returns-3
 returns-3 c =
     let sound = c .before .before in
-    (sound .before .is-case .ensures .0 (not-false _ (sound .if1 .left)), told-no _ (c .before .agrees .ensures) (c .if2 .left))
+    (sound .before .has-sizes .ensures .0 (not-false _ (sound .if1 .left)), told-no _ (c .before .agrees .ensures) (c .if2 .left))
 
 pub judge-spec : {M : Type 1} → statement M
-judge-spec = tie.close (tie.spec is-case-requires returns agrees-requires returns-2 returns-3)
+judge-spec =
+    tie.close
+    (tie.spec
+    slice-aggregate-has-sizes
+    has-sizes-requires
+    returns
+    agrees-requires
+    returns-2
+    returns-3)

@@ -28,20 +28,17 @@ run-requires c κs = search needs
 size-field-requires : tie.Need-size-field-requires
 size-field-requires c κs = search needs
 
+add-number : tie.Need-add-number
+add-number c = search needs
+
+number-requires : tie.Need-number-requires
+number-requires c κs = search needs
+
 add-field : tie.Need-add-field
 add-field c = search needs
 
 field-requires-4 : tie.Need-field-requires-4
 field-requires-4 c κs = search needs
-
-word-requires : tie.Need-word-requires
-word-requires c κs = search needs
-
-add-field-2 : tie.Need-add-field-2
-add-field-2 c = search needs
-
-field-requires-5 : tie.Need-field-requires-5
-field-requires-5 c κs = search needs
 
 answer-agrees-requires : tie.Need-answer-agrees-requires
 answer-agrees-requires c κs = search needs
@@ -53,7 +50,7 @@ returns : tie.Need-returns
 unfolding CallAgrees
 returns c =
     let told = c .before .before .before in
-    let place = told .before .before in
+    let place = told .before in
     let ran = place .before .before .before in
     let inputs = ran .before .before in
     let filled = inputs .before .before .before .before .before in
@@ -65,8 +62,8 @@ returns c =
     answer-agrees-as _
     (ran .run .ensures .0
     ∙ ap₄ (λ (x y z out : List ℕ). callAnswer (args .call) x y z (length out)) x y z out)
-    (told .word .ensures ∙ ap word32 (told .before .field4 .ensures ∙ ap (λ (k : ℕ). field (k + 1) (now (args .text))) (place .size-field .ensures .0)))
-    (c .before .before .field5 .ensures ∙ ap (λ (k : ℕ). field (k + 3) (now (args .text))) (place .size-field .ensures .0))
+    (told .number .ensures ∙ ap (λ (k : ℕ). word32 (field (k + 1) (now (args .text)))) (place .size-field .ensures .0))
+    (c .before .before .field4 .ensures ∙ ap (λ (k : ℕ). field (k + 3) (now (args .text))) (place .size-field .ensures .0))
     (ran .run .ensures .1 ∙ ap₄ (callOut (args .call)) x y z out)
     (c .answer-agrees .ensures)
 
@@ -80,11 +77,10 @@ call-agrees-spec =
     field-requires-3
     run-requires
     size-field-requires
+    add-number
+    number-requires
     add-field
     field-requires-4
-    word-requires
-    add-field-2
-    field-requires-5
     answer-agrees-requires
     same-length
     returns)

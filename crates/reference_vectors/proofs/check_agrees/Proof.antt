@@ -1,7 +1,6 @@
 use mathlib.Core.Path.{ap, _∙_}
 use Rattle.records.specs.Answers.{number}
 use Rattle.calls.specs.Calls.{checkAnswer}
-use Rattle.vectors.specs.Fields.{word32}
 use Rattle.vectors.proofs.Answers.{tells-as, tells-equal}
 use borrow.Author.Needs.{needs}
 use Rattle.reference_vectors.proofs.check_agrees.Statement.{statement}
@@ -16,18 +15,15 @@ check-secret-key-requires c κs = search needs
 number-requires : tie.Need-number-requires
 number-requires c κs = search needs
 
-field-requires-2 : tie.Need-field-requires-2
-field-requires-2 c κs = search needs
-
-word-requires : tie.Need-word-requires
-word-requires c κs = search needs
+number-requires-2 : tie.Need-number-requires-2
+number-requires-2 c κs = search needs
 
 returns : tie.Need-returns
 returns c =
-    let checked = c .before .before in
+    let checked = c .before in
     tells-as _
     (checked .number .ensures ∙ ap number (checked .before .check-secret-key .ensures .0 ∙ ap checkAnswer (checked .before .before .field .ensures)))
-    (c .word .ensures ∙ ap word32 (c .before .field2 .ensures))
+    (c .number2 .ensures)
     (tells-equal _ _)
 
 pub check-agrees-spec : {M : Type 1} → statement M
@@ -37,6 +33,5 @@ check-agrees-spec =
     field-requires
     check-secret-key-requires
     number-requires
-    field-requires-2
-    word-requires
+    number-requires-2
     returns)

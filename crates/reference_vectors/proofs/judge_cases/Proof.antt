@@ -1,93 +1,50 @@
-use mathlib.Core.Path.{_≡_, ap, _∙_}
-use mathlib.Core.Logic.{⊎-elim}
-use Prim.Native.Nat.{ℕ, _+_, _-_, _≤_, _<_}
-use native.Mathlib.Nat.{le-refl}
-use native.Mathlib.Numerals.{add-one}
-use native.Mathlib.Omega.{arith}
-use lib.ListN.{length, take, drop}
-use denote.Ref.{now}
-use Rattle.lists.proofs.Parts.{length-part}
-use Rattle.vectors.specs.Fields.{start}
-use Rattle.vectors.proofs.Texts.{start-some}
+use Prim.Native.Nat.{_-_, _≤_, _<_}
+use lib.ListN.{length}
 use borrow.Author.Needs.{needs}
 use Rattle.reference_vectors.proofs.judge_cases.Statement.{statement}
 use Rattle.reference_vectors.proofs.judge_cases.Tie as tie
 
 abbrev Inv-loop : tie.InvT-loop
-Inv-loop kind text left₀ agreed₀ differed₀ left agreed differed = agreed + differed + left ≤ length text
+Inv-loop kind text fields report₀ at₀ report at = (0 < fields) × (at ≤ length text)
 
 abbrev μ-loop : tie.MeasureT-loop
-μ-loop kind text left₀ agreed₀ differed₀ left agreed differed = left
-
-loop-holds : tie.Need-loop-holds Inv-loop μ-loop
-loop-holds c = search needs
-
-sub-at : tie.Need-sub-at Inv-loop μ-loop
-sub-at c = search needs
-
-sub-rest : tie.Need-sub-rest Inv-loop μ-loop
-sub-rest c = search needs
-
-part-rest-start : tie.Need-part-rest-start Inv-loop μ-loop
-part-rest-start c = search needs
-
-part-rest-end : tie.Need-part-rest-end Inv-loop μ-loop
-part-rest-end c = search needs
-
-judge-requires : tie.Need-judge-requires Inv-loop μ-loop
-judge-requires c κs = search needs
-
-enum-told : tie.Need-enum-told Inv-loop μ-loop
-enum-told c = search needs
-
-add-agreed : tie.Need-add-agreed Inv-loop μ-loop
-add-agreed c = search needs
-
-enum-told-2 : tie.Need-enum-told-2 Inv-loop μ-loop
-enum-told-2 c = search needs
-
-add-differed : tie.Need-add-differed Inv-loop μ-loop
-add-differed c = search needs
-
-enum-told-3 : tie.Need-enum-told-3 Inv-loop μ-loop
-enum-told-3 c = search needs
-
-returns : tie.Need-returns Inv-loop μ-loop
-returns c = search needs
+μ-loop kind text fields report₀ at₀ report at = length text - at
 
 last-field-requires : tie.Need-last-field-requires Inv-loop μ-loop
 last-field-requires c κs = search needs
 
-add-start : tie.Need-add-start Inv-loop μ-loop
-add-start c = omega (arith, c .last-field .ensures .1)
+add-fields : tie.Need-add-fields Inv-loop μ-loop
+add-fields c = search needs
 
-start-requires : tie.Need-start-requires Inv-loop μ-loop
-start-requires c κs = search needs
+loop-holds : tie.Need-loop-holds Inv-loop μ-loop
+loop-holds c = search needs
 
--- a case has at least one byte, and no more than are left
-size : (c : tie.After-start Inv-loop μ-loop)
-    → (0 < c .start .result) × (c .start .result ≤ c .before .before .before .before .before .before .loop .left)
-size c =
-    let at-loop = c .before .before .before .before .before .before in
-    let text = now (at-loop .before .before .args .text) in
-    let at = length text - at-loop .loop .left in
-    let rest : length (take (length text - at) (drop at text)) ≡ length text - at = length-part at (length text) text (le-refl (length text)) in
-    let left : length text - at ≡ at-loop .loop .left = omega (arith, at-loop .loop .inv) in
-    let some = start-some (c .before .last-field .result) (take (length text - at) (drop at text)) (omega (arith, rest, left, c .before .before .before .before .before .loop-test .taken)) in
-    let told = c .start .ensures .0 ∙ ap (λ (k : ℕ). start k (take (length text - at) (drop at text))) (add-one (c .before .last-field .result)) in
-    (omega (arith, some, told), omega (arith, rest, left, c .start .ensures .1))
+sub-judge : tie.Need-sub-judge Inv-loop μ-loop
+sub-judge c = search needs
 
-sub-left : tie.Need-sub-left Inv-loop μ-loop
-sub-left c = size c .1
+part-judge-start : tie.Need-part-judge-start Inv-loop μ-loop
+part-judge-start c = search needs
+
+part-judge-end : tie.Need-part-judge-end Inv-loop μ-loop
+part-judge-end c = search needs
+
+judge-requires : tie.Need-judge-requires Inv-loop μ-loop
+judge-requires c κs = search needs
+
+counted-requires : tie.Need-counted-requires Inv-loop μ-loop
+counted-requires c κs = search needs
+
+after-case-requires : tie.Need-after-case-requires Inv-loop μ-loop
+after-case-requires c κs = search needs
 
 loop-less : tie.Need-loop-less Inv-loop μ-loop
-loop-less c = omega (arith, size c .0, size c .1)
+loop-less c = search needs
 
 loop-again : tie.Need-loop-again Inv-loop μ-loop
-loop-again c = ⊎-elim (λ w. omega (arith, size c .0)) (λ w. omega (arith, size c .0)) (c .before .before .match .came)
+loop-again c = search needs
 
-returns-2 : tie.Need-returns-2 Inv-loop μ-loop
-returns-2 c = search needs
+returns : tie.Need-returns Inv-loop μ-loop
+returns c = search needs
 
 pub judge-cases-spec : {M : Type 1} → statement M
 judge-cases-spec =
@@ -95,22 +52,15 @@ judge-cases-spec =
     (tie.spec
     Inv-loop
     μ-loop
-    loop-holds
-    sub-at
-    sub-rest
-    part-rest-start
-    part-rest-end
-    judge-requires
-    enum-told
-    add-agreed
-    enum-told-2
-    add-differed
-    enum-told-3
-    returns
     last-field-requires
-    add-start
-    start-requires
-    sub-left
+    add-fields
+    loop-holds
+    sub-judge
+    part-judge-start
+    part-judge-end
+    judge-requires
+    counted-requires
+    after-case-requires
     loop-less
     loop-again
-    returns-2)
+    returns)

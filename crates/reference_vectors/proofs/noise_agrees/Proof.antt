@@ -3,24 +3,20 @@ use mathlib.Core.List.{List}
 use Prim.Native.Nat.{ℕ}
 use lib.ListN.{getD}
 use Rattle.sampling.specs.Noise.{ternaryNoise}
-use Rattle.vectors.specs.Fields.{word32}
 use Rattle.vectors.proofs.Answers.{tells-no, tells-both, tells-as, tells-equal}
 use Rattle.reference_vectors.specs.Cases.{residueOf}
 use borrow.Author.Needs.{needs}
 use Rattle.reference_vectors.proofs.noise_agrees.Statement.{statement}
 use Rattle.reference_vectors.proofs.noise_agrees.Tie as tie
 
-field-requires : tie.Need-field-requires
-field-requires c κs = search needs
-
-word-requires : tie.Need-word-requires
-word-requires c κs = search needs
+number-requires : tie.Need-number-requires
+number-requires c κs = search needs
 
 returns : tie.Need-returns
-returns c = tells-no (λ a. c .if1 .taken (c .before .word .ensures ∙ ap word32 (c .before .before .field .ensures) ∙ a .0))
+returns c = tells-no (λ a. c .if1 .taken (c .before .number .ensures ∙ a .0))
 
-field-requires-2 : tie.Need-field-requires-2
-field-requires-2 c κs = search needs
+field-requires : tie.Need-field-requires
+field-requires c κs = search needs
 
 ternary-requires : tie.Need-ternary-requires
 ternary-requires c κs = search needs
@@ -31,37 +27,32 @@ array-read-result c = search needs
 cast-result : tie.Need-cast-result
 cast-result c = search needs
 
-field-requires-3 : tie.Need-field-requires-3
-field-requires-3 c κs = search needs
-
-word-requires-2 : tie.Need-word-requires-2
-word-requires-2 c κs = search needs
+number-requires-2 : tie.Need-number-requires-2
+number-requires-2 c κs = search needs
 
 residue-requires : tie.Need-residue-requires
 residue-requires c κs = search needs
 
 returns-2 : tie.Need-returns-2
 returns-2 c =
-    let drawn = c .before .before .before in
+    let drawn = c .before .before in
     let zero = drawn .before .before in
-    tells-both _ (ap word32 (sym (zero .before .before .field .ensures)) ∙ sym (zero .before .word .ensures) ∙ zero .if1 .left)
+    tells-both _ (sym (zero .before .number .ensures) ∙ zero .if1 .left)
     (tells-as _
-    (ap (λ (p : List ℕ). getD p 0 0) (drawn .ternary .ensures ∙ ap ternaryNoise (drawn .before .field2 .ensures)))
-    (c .residue .ensures ∙ ap residueOf (c .before .word2 .ensures ∙ ap word32 (c .before .before .field3 .ensures)))
+    (ap (λ (p : List ℕ). getD p 0 0) (drawn .ternary .ensures ∙ ap ternaryNoise (drawn .before .field .ensures)))
+    (c .residue .ensures ∙ ap residueOf (c .before .number2 .ensures))
     (tells-equal _ _))
 
 pub noise-agrees-spec : {M : Type 1} → statement M
 noise-agrees-spec =
     tie.close
     (tie.spec
-    field-requires
-    word-requires
+    number-requires
     returns
-    field-requires-2
+    field-requires
     ternary-requires
     array-read-result
     cast-result
-    field-requires-3
-    word-requires-2
+    number-requires-2
     residue-requires
     returns-2)

@@ -1,4 +1,4 @@
-use Rattle.ring_vectors.proofs.Answers.{tells-as, tells-equal}
+use Rattle.vectors.proofs.Answers.{tells-as, tells-equal}
 use mathlib.Core.Path.{ap, ap₂}
 use Prim.Native.Nat.{ℕ, _+_, _*_}
 use borrow.Author.Needs.{needs}

@@ -1,12 +1,13 @@
 use mir.Val.{SFits}
 use mir.ValLaws.{toZ-ofZ}
 use mir.Syntax.{w32}
-use Rattle.ring_vectors.specs.Judge.{Tells}
-use Rattle.ring_vectors.specs.Fields.{signed}
+use Rattle.vectors.specs.Answers.{Tells}
+use Rattle.ring_vectors.specs.Cases.{signed}
 use Rattle.ring.specs.Centred.{centred, centredRemainder}
 use mathlib.Core.Path.{_≡_, ap, _∙_}
 use borrow.Author.Tests.{not-true, not-false}
-use Rattle.ring_vectors.proofs.Answers.{tells-no, told-no, tells-integers}
+use Rattle.vectors.proofs.Answers.{tells-no, told-no}
+use Rattle.ring_vectors.proofs.Words.{tells-integers}
 use borrow.Author.Needs.{needs}
 use Rattle.ring_vectors.proofs.integers_agree.Statement.{statement}
 use Rattle.ring_vectors.proofs.integers_agree.Tie as tie

@@ -1,9 +1,15 @@
+use mathlib.Core.Path.{sym, ap₂, _∙_}
 use Rattle.ring.specs.Ring.{product}
-use mathlib.Core.Path.{ap₂, _∙_}
-use Rattle.ring_vectors.proofs.Answers.{tells-as}
+use Rattle.vectors.proofs.Answers.{tells-no, tells-both, tells-as}
 use borrow.Author.Needs.{needs}
 use Rattle.ring_vectors.proofs.product_agrees.Statement.{statement}
 use Rattle.ring_vectors.proofs.product_agrees.Tie as tie
+
+number-requires : tie.Need-number-requires
+number-requires c κs = search needs
+
+returns : tie.Need-returns
+returns c = tells-no (λ a. c .if1 .taken (c .before .number .ensures ∙ a .0))
 
 element-requires : tie.Need-element-requires
 element-requires c κs = search needs
@@ -20,21 +26,22 @@ product-with-requires c κs = search needs
 same-elements-requires : tie.Need-same-elements-requires
 same-elements-requires c κs = search needs
 
-returns : tie.Need-returns
-returns c =
-    let found = c .before .product-with .ensures in
+returns-2 : tie.Need-returns-2
+returns-2 c =
     let third = c .before .before in
-    let f = third .before .before .element .ensures in
-    let g = third .before .element2 .ensures in
-    tells-as _ (found ∙ ap₂ product f g) (third .element3 .ensures) (c .same-elements .ensures)
+    let zero = third .before .before .before in
+    let found = c .before .product-with .ensures ∙ ap₂ product (third .before .before .element .ensures) (third .before .element2 .ensures) in
+    tells-both _ (sym (zero .before .number .ensures) ∙ zero .if1 .left) (tells-as _ found (third .element3 .ensures) (c .same-elements .ensures))
 
 pub product-agrees-spec : {M : Type 1} → statement M
 product-agrees-spec =
     tie.close
     (tie.spec
+    number-requires
+    returns
     element-requires
     element-requires-2
     element-requires-3
     product-with-requires
     same-elements-requires
-    returns)
+    returns-2)

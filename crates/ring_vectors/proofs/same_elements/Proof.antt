@@ -1,6 +1,6 @@
 use mathlib.Core.List.{List}
 use native.Mathlib.Omega.{arith}
-use Rattle.ring_vectors.proofs.Answers.{tells-no, tells-yes}
+use Rattle.vectors.proofs.Answers.{tells-no, tells-yes}
 use borrow.Author.Count.{below-more}
 use lib.Seq.{ext-getD}
 use mathlib.Core.Path.{_≡_, ap}

@@ -2,7 +2,7 @@ use mir.Val.{ofZ}
 use mir.Syntax.{w32}
 use mathlib.Core.Path.{ap}
 use Rattle.ring_vectors.proofs.Words.{same-bits}
-use Rattle.ring_vectors.proofs.Answers.{tells-by, tells-equal}
+use Rattle.vectors.proofs.Answers.{tells-by, tells-equal}
 use Rattle.ring_vectors.proofs.same_integers.Statement.{statement}
 use Rattle.ring_vectors.proofs.same_integers.Tie as tie
 

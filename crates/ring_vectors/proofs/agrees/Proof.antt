@@ -1,0 +1,55 @@
+use denote.Ref.{now}
+use Rattle.vectors.proofs.Answers.{tells-of}
+use Rattle.ring_vectors.specs.declared.Kind.{Kind}
+use Rattle.ring_vectors.specs.declared.Kind.the-variants.{Products, Inverses, Remainders}
+use Rattle.ring_vectors.specs.Cases.{Agrees}
+use borrow.Author.Needs.{needs}
+use Rattle.ring_vectors.proofs.agrees.Statement.{statement}
+use Rattle.ring_vectors.proofs.agrees.Tie as tie
+
+enum-told : tie.Need-enum-told
+enum-told c = search needs
+
+product-agrees-requires : tie.Need-product-agrees-requires
+product-agrees-requires c κs = search needs
+
+enum-told-2 : tie.Need-enum-told-2
+enum-told-2 c = search needs
+
+inverse-agrees-requires : tie.Need-inverse-agrees-requires
+inverse-agrees-requires c κs = search needs
+
+enum-told-3 : tie.Need-enum-told-3
+enum-told-3 c = search needs
+
+remainder-agrees-requires : tie.Need-remainder-agrees-requires
+remainder-agrees-requires c κs = search needs
+
+returns : tie.Need-returns
+returns c =
+    let text = now (c .before .before .before .before .before .before .args .text) in
+    tells-of (λ (k : Kind). Agrees k text) Products _ (c .before .enum-told .given .1) (c .product-agrees .ensures)
+
+returns-2 : tie.Need-returns-2
+returns-2 c =
+    let text = now (c .before .before .before .before .before .before .args .text) in
+    tells-of (λ (k : Kind). Agrees k text) Inverses _ (c .before .enum-told2 .given .1) (c .inverse-agrees .ensures)
+
+returns-3 : tie.Need-returns-3
+returns-3 c =
+    let text = now (c .before .before .before .before .before .before .args .text) in
+    tells-of (λ (k : Kind). Agrees k text) Remainders _ (c .before .enum-told3 .given .1) (c .remainder-agrees .ensures)
+
+pub agrees-spec : {M : Type 1} → statement M
+agrees-spec =
+    tie.close
+    (tie.spec
+    enum-told
+    product-agrees-requires
+    enum-told-2
+    inverse-agrees-requires
+    enum-told-3
+    remainder-agrees-requires
+    returns
+    returns-2
+    returns-3)

@@ -1,9 +1,0 @@
-use Rattle.lists.proofs.Zeros.{size-zeros}
-use Rattle.ring_vectors.proofs.file_buffer.Statement.{statement}
-use Rattle.ring_vectors.proofs.file_buffer.Tie as tie
-
-returns : tie.Need-returns
-returns c = size-zeros 2097152
-
-pub file-buffer-spec : {M : Type 1} → statement M
-file-buffer-spec = tie.close (tie.spec returns)
