@@ -12,7 +12,7 @@ use Rattle.keccak.specs.Constants.{offset}
 use Rattle.keccak.specs.Keccak.{State, lane, plane, state, rotate, complement, parity, effect, theta, rho, pi, chi, iota, round, rounds, keccakF}
 use Rattle.keccak.specs.Complementing.{complementIf, complementedBy, marks, marksBeforeChi, complemented, gathered, complementedChi, complementedRound}
 use Rattle.keccak.proofs.States.{lane-state, state-same}
-use Rattle.keccak.proofs.Bits.{Wide, parity-lt, rotate-lt, theta-wide, rho-wide, pi-wide, wide-state, rounds-wide}
+use Rattle.keccak.proofs.Bits.{Wide, parity-lt, theta-wide, rho-wide, pi-wide, wide-state, rounds-wide}
 use Rattle.keccak.proofs.Words.{rotate-xor, xor-ones, not-lt, not-not, xor-not, not-xor, not-xor-not, not-or}
 
 -- ---- theta, rho and pi are linear
@@ -105,6 +105,7 @@ complemented-sum m a w =
     (λ x y hx hy.
     if-mask (lane m x y) (lane a x y) (w x y hx hy) ∙ ap (bitXor (lane a x y)) (sym (lane-state (λ x y. mask (lane m x y)) x y hx hy)))
 
+-- antt computes where theta, rho and pi bring the ones
 linear-masks : linear (masks marks) ≡ masks marksBeforeChi
 unfolding masks mask
 linear-masks = refl
@@ -119,7 +120,7 @@ linear-complemented a w =
     ∙ ap (sum (linear a)) linear-masks
     ∙ sym (complemented-sum marksBeforeChi (linear a) (linear-wide a w))
 
--- ---- chi on complemented lanes: what its lanes are, where u, v, w and the result are complemented or not
+-- ---- a lane of chi, where u, v, w and the lane itself are complemented or not
 
 module _ (u v w : ℕ) (hu : u < 2 ^ 64) (hv : v < 2 ^ 64) (hw : w < 2 ^ 64) where
   or-in : bitXor (complement u) (bitAnd (complement v) (complement w)) ≡ bitXor u (bitOr v w)
@@ -154,8 +155,9 @@ lanes-same : {a0 b0 a1 b1 a2 b2 a3 b3 a4 b4 : ℕ} → a0 ≡ b0 → a1 ≡ b1 �
     → _≡_ {A = List ℕ} (a0 ∷ a1 ∷ a2 ∷ a3 ∷ a4 ∷ []) (b0 ∷ b1 ∷ b2 ∷ b3 ∷ b4 ∷ [])
 lanes-same p0 p1 p2 p3 p4 = λ i. p0 i ∷ p1 i ∷ p2 i ∷ p3 i ∷ p4 i ∷ []
 
--- the code of each plane
-module _ (p : List ℕ) (h : (x : ℕ) → x < 5 → getD p x 0 < 2 ^ 64) where
+-- ---- what the code of each plane makes
+
+module _ (p : List ℕ) (h : (x : ℕ) → getD p x 0 < 2 ^ 64) where
   abbrev b : ℕ → ℕ
   b x = getD p x 0
 
@@ -168,11 +170,11 @@ module _ (p : List ℕ) (h : (x : ℕ) → x < 5 → getD p x 0 < 2 ^ 64) where
       ∷ []
   chi-0 =
       lanes-same
-      (or-in (b 0) (b 1) (b 2) (h 0 (omega arith)) (h 1 (omega arith)) (h 2 (omega arith)))
-      (or-out (b 1) (complement (b 2)) (b 3) (h 1 (omega arith)) (not-lt (b 2)) (h 3 (omega arith)))
-      (and-out (b 2) (b 3) (b 4) (h 2 (omega arith)) (h 3 (omega arith)) (h 4 (omega arith)))
-      (or-in (b 3) (b 4) (b 0) (h 3 (omega arith)) (h 4 (omega arith)) (h 0 (omega arith)))
-      (and-in (b 4) (b 0) (b 1) (h 4 (omega arith)) (h 0 (omega arith)) (h 1 (omega arith)))
+      (or-in (b 0) (b 1) (b 2) (h 0) (h 1) (h 2))
+      (or-out (b 1) (complement (b 2)) (b 3) (h 1) (not-lt (b 2)) (h 3))
+      (and-out (b 2) (b 3) (b 4) (h 2) (h 3) (h 4))
+      (or-in (b 3) (b 4) (b 0) (h 3) (h 4) (h 0))
+      (and-in (b 4) (b 0) (b 1) (h 4) (h 0) (h 1))
 
   pub chi-1 : complementedChi 1 p
       ≡ bitXor (b 0) (bitOr (b 1) (b 2))
@@ -183,11 +185,11 @@ module _ (p : List ℕ) (h : (x : ℕ) → x < 5 → getD p x 0 < 2 ^ 64) where
       ∷ []
   chi-1 =
       lanes-same
-      (or-in (b 0) (b 1) (b 2) (h 0 (omega arith)) (h 1 (omega arith)) (h 2 (omega arith)))
-      (and-in (b 1) (b 2) (b 3) (h 1 (omega arith)) (h 2 (omega arith)) (h 3 (omega arith)))
-      (or-last (b 2) (b 3) (b 4) (h 2 (omega arith)) (h 3 (omega arith)) (h 4 (omega arith)))
-      (or-out (b 3) (b 4) (b 0) (h 3 (omega arith)) (h 4 (omega arith)) (h 0 (omega arith)))
-      (and-in (b 4) (b 0) (b 1) (h 4 (omega arith)) (h 0 (omega arith)) (h 1 (omega arith)))
+      (or-in (b 0) (b 1) (b 2) (h 0) (h 1) (h 2))
+      (and-in (b 1) (b 2) (b 3) (h 1) (h 2) (h 3))
+      (or-last (b 2) (b 3) (b 4) (h 2) (h 3) (h 4))
+      (or-out (b 3) (b 4) (b 0) (h 3) (h 4) (h 0))
+      (and-in (b 4) (b 0) (b 1) (h 4) (h 0) (h 1))
 
   pub chi-2 : complementedChi 2 p
       ≡ bitXor (b 0) (bitOr (b 1) (b 2))
@@ -198,11 +200,11 @@ module _ (p : List ℕ) (h : (x : ℕ) → x < 5 → getD p x 0 < 2 ^ 64) where
       ∷ []
   chi-2 =
       lanes-same
-      (or-in (b 0) (b 1) (b 2) (h 0 (omega arith)) (h 1 (omega arith)) (h 2 (omega arith)))
-      (and-in (b 1) (b 2) (b 3) (h 1 (omega arith)) (h 2 (omega arith)) (h 3 (omega arith)))
-      (both-out (b 2) (complement (b 3)) (b 4) (h 2 (omega arith)) (not-lt (b 3)) (h 4 (omega arith)))
-      (or-not (b 3) (b 4) (b 0) (h 3 (omega arith)) (h 4 (omega arith)) (h 0 (omega arith)))
-      (and-in (b 4) (b 0) (b 1) (h 4 (omega arith)) (h 0 (omega arith)) (h 1 (omega arith)))
+      (or-in (b 0) (b 1) (b 2) (h 0) (h 1) (h 2))
+      (and-in (b 1) (b 2) (b 3) (h 1) (h 2) (h 3))
+      (both-out (b 2) (complement (b 3)) (b 4) (h 2) (not-lt (b 3)) (h 4))
+      (or-not (b 3) (b 4) (b 0) (h 3) (h 4) (h 0))
+      (and-in (b 4) (b 0) (b 1) (h 4) (h 0) (h 1))
 
   pub chi-3 : complementedChi 3 p
       ≡ bitXor (b 0) (bitAnd (b 1) (b 2))
@@ -213,11 +215,11 @@ module _ (p : List ℕ) (h : (x : ℕ) → x < 5 → getD p x 0 < 2 ^ 64) where
       ∷ []
   chi-3 =
       lanes-same
-      (and-in (b 0) (b 1) (b 2) (h 0 (omega arith)) (h 1 (omega arith)) (h 2 (omega arith)))
-      (or-in (b 1) (b 2) (b 3) (h 1 (omega arith)) (h 2 (omega arith)) (h 3 (omega arith)))
-      (or-out (b 2) (complement (b 3)) (b 4) (h 2 (omega arith)) (not-lt (b 3)) (h 4 (omega arith)))
-      (and-in (complement (b 3)) (b 4) (b 0) (not-lt (b 3)) (h 4 (omega arith)) (h 0 (omega arith)))
-      (or-in (b 4) (b 0) (b 1) (h 4 (omega arith)) (h 0 (omega arith)) (h 1 (omega arith)))
+      (and-in (b 0) (b 1) (b 2) (h 0) (h 1) (h 2))
+      (or-in (b 1) (b 2) (b 3) (h 1) (h 2) (h 3))
+      (or-out (b 2) (complement (b 3)) (b 4) (h 2) (not-lt (b 3)) (h 4))
+      (and-in (complement (b 3)) (b 4) (b 0) (not-lt (b 3)) (h 4) (h 0))
+      (or-in (b 4) (b 0) (b 1) (h 4) (h 0) (h 1))
 
   pub chi-4 : complementedChi 4 p
       ≡ bitXor (b 0) (bitAnd (complement (b 1)) (b 2))
@@ -228,11 +230,11 @@ module _ (p : List ℕ) (h : (x : ℕ) → x < 5 → getD p x 0 < 2 ^ 64) where
       ∷ []
   chi-4 =
       lanes-same
-      (both-out (b 0) (complement (b 1)) (b 2) (h 0 (omega arith)) (not-lt (b 1)) (h 2 (omega arith)))
-      (or-not (b 1) (b 2) (b 3) (h 1 (omega arith)) (h 2 (omega arith)) (h 3 (omega arith)))
-      (and-in (b 2) (b 3) (b 4) (h 2 (omega arith)) (h 3 (omega arith)) (h 4 (omega arith)))
-      (or-in (b 3) (b 4) (b 0) (h 3 (omega arith)) (h 4 (omega arith)) (h 0 (omega arith)))
-      (and-in (b 4) (b 0) (b 1) (h 4 (omega arith)) (h 0 (omega arith)) (h 1 (omega arith)))
+      (both-out (b 0) (complement (b 1)) (b 2) (h 0) (not-lt (b 1)) (h 2))
+      (or-not (b 1) (b 2) (b 3) (h 1) (h 2) (h 3))
+      (and-in (b 2) (b 3) (b 4) (h 2) (h 3) (h 4))
+      (or-in (b 3) (b 4) (b 0) (h 3) (h 4) (h 0))
+      (and-in (b 4) (b 0) (b 1) (h 4) (h 0) (h 1))
 
 -- ---- a round, and the rounds
 
@@ -240,7 +242,7 @@ module _ (p : List ℕ) (h : (x : ℕ) → x < 5 → getD p x 0 < 2 ^ 64) where
 abbrev pub newPlane : State → ℕ → List ℕ
 newPlane a y = complementedChi y (gathered a (plane (effect a)) y)
 
--- by the calls that make it
+-- it is made by three calls
 pub new-plane : (a : State) (y : ℕ) {d g p : List ℕ} → d ≡ plane (effect a) → g ≡ gathered a d y → p ≡ complementedChi y g → p ≡ newPlane a y
 new-plane a y effects gather chi = chi ∙ ap (complementedChi y) (gather ∙ ap (λ (d : List ℕ). gathered a d y) effects)
 
@@ -279,6 +281,7 @@ unfolding keccakF rounds round
 all-rounds a w =
     ap complemented (rounds-complemented 24 (omega arith) a w) ∙ complemented-twice (rounds 24 a) (rounds-wide 24 (omega arith) a w)
 
+-- a turn of the loop
 pub two-more : (i : ℕ) (a : State) {s t : State} → s ≡ roundsFrom 0 (2 * i) a → t ≡ complementedRound (2 * i + 1) (complementedRound (2 * i) s)
     → t ≡ roundsFrom 0 (2 * (i + 1)) a
 two-more i a before step =

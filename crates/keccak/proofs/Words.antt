@@ -1,10 +1,10 @@
 -- Words of 64 bits: known by their bits; rotation of a sum, and the laws of complement.
-use mathlib.Core.Path.{_≡_, refl, sym, ap, ap₂, _∙_}
-use Prim.Native.Nat.{ℕ, zero, suc, _+_, _*_, _-_, _/_, _%_, _^_, _<_}
+use mathlib.Core.Path.{_≡_, sym, ap, ap₂, _∙_}
+use Prim.Native.Nat.{ℕ, zero, suc, _+_, _-_, _/_, _%_, _^_, _<_}
 use native.Mathlib.Nat.{div-one, mod-eq-of-lt}
 use native.Mathlib.Numerals.{add-one}
 use native.Mathlib.Omega.{arith}
-use lib.Bits.{bitXor, bitAnd, bitOr, xor-lt, or-lt, and-lt, xor-comm, xor-add-and, and-mask, or-add-and}
+use lib.Bits.{bitXor, bitAnd, bitOr, xor-lt, xor-comm, xor-add-and, and-mask, or-add-and}
 use lib.Pow.{shr-lt, ones-sub-lt}
 use Rattle.lists.specs.Bits.{bit}
 use Rattle.lists.proofs.Bits.{bit-xor, bit-shr}

@@ -2,16 +2,14 @@
 use mathlib.Core.Path.{_≡_, refl, sym, ap, ap₂, _∙_}
 use mathlib.Core.List.{List, [], _∷_, _++_, append-assoc}
 use Prim.Native.Nat.{ℕ, zero, suc, _+_, _*_, _-_, _/_, _%_, _<_, _≤_}
-use native.Mathlib.Nat.{mul-suc, mul-div-le, mul-le-mul-left, le-trans, le-of-eq, mod-lt, div-add-mod, mul-div-cancel-left, sub-zero}
+use native.Mathlib.Nat.{mul-suc, mul-div-le, mul-le-mul-left, mul-le-mul-right, le-trans, le-of-eq, mod-lt, div-add-mod, mul-div-cancel-left, sub-zero}
 use native.Mathlib.Numerals.{add-one}
 use native.Mathlib.Omega.{arith}
 use lib.ListN.{length, take, drop, set, length-append, length-drop, length-replicate}
 use lib.Seq.{take-at, take-append-le, drop-append-le, take-all, set-at}
 use Rattle.lists.specs.Table.{zeros}
 use Rattle.lists.proofs.Zeros.{zeros-around}
-use Rattle.lists.proofs.Parts.{length-part}
-use Rattle.keccak.specs.Keccak.{State}
-use Rattle.shake.specs.Sponge.{block, absorbed, absorbBlock, absorb}
+use Rattle.shake.specs.Sponge.{block, absorbed, absorb}
 use Rattle.shake.specs.Shake.{padding, padded}
 
 -- ---- places of blocks of r bytes in a string of n
@@ -19,6 +17,14 @@ use Rattle.shake.specs.Shake.{padding, padded}
 -- block k ends within the string where k is below the number of whole blocks
 pub block-fits : (r n k : ℕ) → k < n / r → r * k + r ≤ n
 block-fits r n k h = le-trans (le-of-eq (sym (mul-suc r k))) (le-trans (mul-le-mul-left r h) (mul-div-le n r))
+
+-- block k starts within it where k is at most that number
+pub start-fits : (r n k : ℕ) → k ≤ n / r → r * k ≤ n
+start-fits r n k h = le-trans (mul-le-mul-left r h) (mul-div-le n r)
+
+-- there are fewer blocks than bytes
+pub blocks-few : (r n : ℕ) → 1 < r → 2 * (n / r) ≤ n
+blocks-few r n h = le-trans (mul-le-mul-right (n / r) h) (mul-div-le n r)
 
 -- what is left behind the whole blocks
 pub rest-fits : (r n : ℕ) → 0 < r → (r * (n / r) ≤ n) × (n - r * (n / r) ≡ n % r) × (n % r < r)
@@ -96,30 +102,18 @@ module _ (r : ℕ) (some : 0 < r) (m : List ℕ) where
       length-append m (padding (r - length m % r)) ∙ ap (λ (k : ℕ). length m + k) (length-padding (r - length m % r)) ∙ omega (arith, fit, mul-suc r n) in
       ap (λ (k : ℕ). k / r) e ∙ mul-div-cancel-left (suc n) some
 
-  -- the whole blocks are absorbed, then the last
-  pub absorb-padded : absorb r (padded r m)
-      ≡ absorbBlock r (absorbed r (length m / r) (padded r m)) (drop (r * (length m / r)) m ++ padding (r - length (drop (r * (length m / r)) m)))
-  unfolding absorb absorbed n rest
-  absorb-padded = rw (blocks, block-last)
-
-  -- a turn of the loop that absorbs the whole blocks
-  pub absorb-next : (k : ℕ) (s : State) → r * k + r ≤ length m → s ≡ absorbed r k (padded r m)
-      → absorbBlock (length (take (r * k + r - r * k) (drop (r * k) m))) s (take (r * k + r - r * k) (drop (r * k) m)) ≡ absorbed r (k + 1) (padded r m)
-  unfolding absorbed
-  absorb-next k s h e =
-      let size : r * k + r - r * k ≡ r = omega arith in
-      rw (length-part (r * k) (r * k + r) m h, size, e, ← block-inside k h, add-one)
-
-  -- the last turn: t is what is left of the message, and the block is the front of b
-  pub absorb-end : (s : State) (t b : List ℕ) → s ≡ absorbed r (length m / r) (padded r m)
-      → t ≡ take (length m - r * (length m / r)) (drop (r * (length m / r)) m)
-      → b ≡ (t ++ padding (r - length t)) ++ zeros (200 - r)
-      → absorbBlock (length (take (r - 0) b)) s (take (r - 0) b) ≡ absorb r (padded r m)
+  -- the last block is the front of b, where t is what is left of the message
+  pub block-end : (k : ℕ) (t b : List ℕ) → k ≡ length m / r → t ≡ take (length m - r * k) (drop (r * k) m)
+      → b ≡ (t ++ padding (r - length t)) ++ zeros (200 - r) → take (r - 0) b ≡ block r k (padded r m)
   unfolding n rest
-  absorb-end s t b e f g =
-      let whole : t ≡ drop (r * (length m / r)) m = f ∙ take-all _ (drop (r * (length m / r)) m) (le-of-eq (length-drop (r * (length m / r)) m)) in
+  block-end k t b e f g =
+      let whole : t ≡ drop (r * n) m = f ∙ rw e (take-all _ (drop (r * n) m) (le-of-eq (length-drop (r * n) m))) in
       let left : length t < r = rw (whole, length-rest) (rest-fits r (length m) some .2) in
       let size : length (t ++ padding (r - length t)) ≡ r = length-append t (padding (r - length t)) ∙ omega (arith, length-padding (r - length t)) in
-      let front : take (r - 0) b ≡ t ++ padding (r - length t) =
-      ap₂ (λ (k : ℕ) (l : List ℕ). take k l) (sub-zero r) g ∙ take-at (t ++ padding (r - length t)) (zeros (200 - r)) r size in
-      rw (front, size, e, whole) (sym absorb-padded)
+      ap₂ (λ (k : ℕ) (l : List ℕ). take k l) (sub-zero r) g ∙ take-at (t ++ padding (r - length t)) (zeros (200 - r)) r size
+      ∙ ap (λ (l : List ℕ). l ++ padding (r - length l)) whole ∙ sym block-last ∙ ap (λ (k : ℕ). block r k (padded r m)) (sym e)
+
+  -- all blocks are absorbed
+  pub absorb-all : absorbed r (length m / r + 1) (padded r m) ≡ absorb r (padded r m)
+  unfolding absorb n
+  absorb-all = rw (blocks, add-one)

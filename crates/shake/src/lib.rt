@@ -6,7 +6,7 @@ ghost use lib.Bits.{bitXor};
 ghost use lib.ListN.{length, getD, take};
 ghost use Rattle.lists.specs.Table.{table, zeros};
 ghost use Rattle.keccak.specs.Keccak.{lane, state};
-ghost use Rattle.shake.specs.Sponge.{Rate, join8, word, laneByte, bytesOf, absorbBlock, absorb, squeeze};
+ghost use Rattle.shake.specs.Sponge.{Rate, join8, word, laneByte, bytesOf, block, absorb, squeeze};
 ghost use Rattle.shake.specs.Shake.{padding, padded, shake256};
 
 // The rate of SHAKE256: 1,088 bits.
@@ -104,15 +104,6 @@ fn xor_words(s: [[u64; 5]; 5], w: [u64; 25]) -> [[u64; 5]; 5]
     ]
 }
 
-// One turn of algorithm 8, step 6. The block is a string of whole lanes; what it lacks to 200 bytes counts as zeros.
-fn absorb_block(s: [[u64; 5]; 5], b: &[u8]) -> [[u64; 5]; 5]
-    requires { ⌜ (length (now b) % 8 ≡ 0) × (length (now b) ≤ 200) ⌝ }
-    ensures { λ r. ⌜ r ≡ absorbBlock (length (now (b .entry))) s (now (b .entry)) ⌝ }
-{
-    let w = words(b);
-    keccak::keccak_f(xor_words(s, w))
-}
-
 // The bytes of t, and zeros up to 200.
 fn zero_filled(t: &[u8]) -> [u8; 200]
     requires { ⌜ length (now t) ≤ 200 ⌝ }
@@ -142,21 +133,32 @@ fn last_block(rate: usize, t: &[u8]) -> [u8; 200]
     b
 }
 
-// Algorithm 8, steps 1 to 6, for a message that is padded here.
+// The lanes of block k of the padded message, and zeros up to 25.
+fn block_words(rate: usize, input: &[u8], k: usize) -> [u64; 25]
+    requires { ⌜ Rate rate × (k ≤ length (now input) / rate) ⌝ }
+    ensures { λ r. ⌜ r ≡ table 25 (word (block rate k (padded rate (now (input .entry))))) ⌝ }
+{
+    let at = rate * k;
+    if k < input.len() / rate {
+        return words(&input[at..at + rate]);
+    }
+    let b = last_block(rate, &input[at..]);
+    words(&b[0..rate])
+}
+
+// Algorithm 8, steps 1 to 6, for a message that is padded here. The permutation stands in one place: the compiler then copies no state.
 fn absorb(rate: usize, input: &[u8]) -> [[u64; 5]; 5]
     requires { ⌜ Rate rate ⌝ }
     ensures { λ r. ⌜ r ≡ absorb rate (padded rate (now (input .entry))) ⌝ }
 {
-    let n = input.len() / rate;
+    let n = input.len() / rate + 1;
     let mut s = [[0u64; 5]; 5];
     for k in 0..n {
-        let at = rate * k;
-        let t = absorb_block(s, &input[at..at + rate]);
+        let w = block_words(rate, input, k);
+        let t = keccak::keccak_f(xor_words(s, w));
         s = t;
     }
-    let at = rate * n;
-    let b = last_block(rate, &input[at..]);
-    absorb_block(s, &b[0..rate])
+    s
 }
 
 // Stores a lane as eight bytes.
