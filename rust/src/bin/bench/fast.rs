@@ -129,14 +129,22 @@ fn backward_layer(r: &mut Element, p: &Element, w: &[u16; 512]) {
     }
 }
 
-pub fn backward(a: &Element, w: &Factors) -> Element {
-    let mut s = a.map(|x| montgomery(64, x));
+fn backward_layers(mut s: Element, w: &Factors) -> Element {
     let (mut v, mut p) = ([0; 512], [0; 1024]);
     for k in (0..10).rev() {
         unzip(&mut p, &mut v, &s);
         backward_layer(&mut s, &p, layer(w, k));
     }
     s
+}
+
+pub fn backward(a: &Element, w: &Factors) -> Element {
+    backward_layers(a.map(|x| montgomery(64, x)), w)
+}
+
+/// The polynomial whose values are the products of those in a and b, which are divided by 1,024 at once.
+pub fn backward_product(a: &Element, b: &Element, w: &Factors) -> Element {
+    backward_layers(zip(a, b, |x, y| montgomery(montgomery(36_794, x), y)), w)
 }
 
 fn zip(a: &Element, b: &Element, f: impl Fn(u16, u16) -> u16) -> Element {
@@ -168,18 +176,23 @@ fn has_zero(a: &Element) -> bool {
     a.iter().fold(false, |any, &x| any | (x == 0))
 }
 
-/// A heap of products, the reciprocal of its top, and the way back down.
+/// A tree of products, level by level, the reciprocal of its top, and the way back down.
 pub fn reciprocals(t: &Element) -> Element {
-    let mut heap = [0u16; 2048];
-    heap[1024..].copy_from_slice(t);
-    for k in (1..1024).rev() {
-        heap[k] = mul(heap[2 * k], heap[2 * k + 1]);
+    let mut tree = [0u16; 2048];
+    tree[1024..].copy_from_slice(t);
+    for m in (0..10).rev().map(|k| 1 << k) {
+        for j in 0..m {
+            tree[m + j] = mul(tree[2 * m + j], tree[3 * m + j]);
+        }
     }
     let mut inverses = [0u16; 2048];
-    inverses[1] = reciprocal(heap[1]);
-    for k in 1..1024 {
-        inverses[2 * k] = mul(inverses[k], heap[2 * k + 1]);
-        inverses[2 * k + 1] = mul(inverses[k], heap[2 * k]);
+    inverses[1] = reciprocal(tree[1]);
+    for m in (0..10).map(|k| 1 << k) {
+        for j in 0..m {
+            let u = inverses[m + j];
+            inverses[2 * m + j] = mul(u, tree[3 * m + j]);
+            inverses[3 * m + j] = mul(u, tree[2 * m + j]);
+        }
     }
     inverses[1024..].try_into().unwrap()
 }
@@ -485,7 +498,7 @@ fn judge_secret_key(record: &[u8], w: &Factors, v: &Factors) -> Result<SecretKey
         return Err(6);
     }
     let (spectrum_a, spectrum_s) = (forward(&a, w), forward(&decode(&record[4101..]), w));
-    let a_s = backward(&pointwise(&spectrum_a, &spectrum_s), v);
+    let a_s = backward_product(&spectrum_a, &spectrum_s, v);
     let e = difference(&multiple(to_montgomery(35_636), &b), &a_s);
     if !within(1, &e) {
         return Err(7);
@@ -514,19 +527,19 @@ fn uniform(stream: &[u8]) -> Option<Element> {
 
 fn capsule(a: &Element, b: &Element, triple: &[Element; 3], w: &Factors, v: &Factors) -> [Element; 2] {
     let r = forward(&triple[0], w);
-    [sum(&backward(&pointwise(a, &r), v), &triple[1]), sum(&backward(&pointwise(b, &r), v), &triple[2])]
+    [sum(&backward_product(a, &r, v), &triple[1]), sum(&backward_product(b, &r, v), &triple[2])]
 }
 
 /// Three more transforms forward and five back, after the key check's three and one.
 fn opened(key: &SecretKey, c1: &Element, c2: &Element, dummy: &[Element; 3], w: &Factors, v: &Factors) -> Option<[Element; 3]> {
     let [d1, d2] = capsule(&key.a, &key.b, dummy, w, v);
     let (first, second) = (sum(c1, &d1), sum(c2, &d2));
-    let first_s = backward(&pointwise(&forward(&first, w), &key.s), v);
+    let first_s = backward_product(&forward(&first, w), &key.s, v);
     let m = difference(&second, &multiple(to_montgomery(5), &first_s));
     let e2 = remainders(&m);
     let spectrum_r = pointwise(&forward(&difference(&second, &e2), w), &reciprocals(&key.b));
     let r = backward(&spectrum_r, v);
-    let e1 = difference(&first, &backward(&pointwise(&key.a, &spectrum_r), v));
+    let e1 = difference(&first, &backward_product(&key.a, &spectrum_r, v));
     let near = within(2, &r) & within(2, &e1);
     let answer = [difference(&r, &dummy[0]), difference(&e1, &dummy[1]), difference(&e2, &dummy[2])];
     let ternary = within(1, &answer[0]) & within(1, &answer[1]) & within(1, &answer[2]);
@@ -540,7 +553,7 @@ pub fn product(a: &[u8], b: &[u8], out: &mut [u8]) -> u32 {
         return 1;
     }
     let (w, v) = (forward_factors(), backward_factors());
-    put_words(&backward(&pointwise(&forward(&words(a), &w), &forward(&words(b), &w)), &v), out);
+    put_words(&backward_product(&forward(&words(a), &w), &forward(&words(b), &w), &v), out);
     0
 }
 
@@ -553,7 +566,7 @@ pub fn keygen(stream: &[u8], noise_s: &[u8], noise_e: &[u8], public_key: &mut [u
     let Some(a) = uniform(stream) else { return 8 };
     let (w, v) = (forward_factors(), backward_factors());
     let (s, e) = (from_noise(noise_s), from_noise(noise_e));
-    let a_s = backward(&pointwise(&forward(&a, &w), &forward(&s, &w)), &v);
+    let a_s = backward_product(&forward(&a, &w), &forward(&s, &w), &v);
     let b = multiple(to_montgomery(5), &sum(&a_s, &e));
     if has_zero(&forward(&b, &w)) {
         return 6;
