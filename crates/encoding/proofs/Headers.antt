@@ -1,21 +1,18 @@
 -- Laws of marks, versions and headers.
 use mathlib.Core.Path.{_≡_, refl, sym}
-use mathlib.Core.Bool.{Bool, true, false, false≢true, _&&_}
+use mathlib.Core.Bool.{Bool, true, _&&_}
 use mathlib.Core.List.{List, [], _∷_, _++_}
 use Prim.Native.Nat.{ℕ, suc, _/_, _%_, _<_, _≤_}
 use native.Mathlib.Omega.{arith}
 use lib.Dec.{eqb, leb}
 use lib.ListN.{length, getD, take, set}
 use borrow.Author.Tests.{le-leb, eq-eqb, eqb-true}
+use Rattle.lists.proofs.Both.{both}
 use Rattle.lists.proofs.Maps.{cons}
 use Rattle.algebra.specs.Numbers.{Below}
 use Rattle.encoding.specs.Header.{hasMark, versionOf, header}
 use Rattle.encoding.specs.Buffers.{putFront}
 use Rattle.encoding.proofs.Buffers.{put-fits}
-
-both-true : (a b : Bool) → (a && b) ≡ true → (a ≡ true) × (b ≡ true)
-both-true true b e = (refl, e)
-both-true false b e = absurd (false≢true e)
 
 pub length-header : (m0 m1 m2 version : ℕ) → length (header m0 m1 m2 version) ≡ 5
 unfolding header
@@ -39,9 +36,9 @@ pub mark-bytes : (m0 m1 m2 : ℕ) (bytes : List ℕ) → hasMark m0 m1 m2 bytes 
 unfolding hasMark
 mark-bytes m0 m1 m2 bytes e =
     let there : Bool = leb 3 (length bytes) in
-    let (first-two, e2) = both-true (there && eqb (getD bytes 0 0) m0 && eqb (getD bytes 1 0) m1) (eqb (getD bytes 2 0) m2) e in
-    let (first, e1) = both-true (there && eqb (getD bytes 0 0) m0) (eqb (getD bytes 1 0) m1) first-two in
-    let (_, e0) = both-true there (eqb (getD bytes 0 0) m0) first in
+    let (first-two, e2) = both (there && eqb (getD bytes 0 0) m0 && eqb (getD bytes 1 0) m1) (eqb (getD bytes 2 0) m2) e in
+    let (first, e1) = both (there && eqb (getD bytes 0 0) m0) (eqb (getD bytes 1 0) m1) first-two in
+    let (_, e0) = both there (eqb (getD bytes 0 0) m0) first in
     (eqb-true (getD bytes 0 0) m0 e0, eqb-true (getD bytes 1 0) m1 e1, eqb-true (getD bytes 2 0) m2 e2)
 
 -- the header of a record is that of its mark and its version

@@ -1,18 +1,15 @@
 -- Whether two strings of bytes are equal.
 use mathlib.Core.Path.{_≡_, refl, sym, _∙_}
-use mathlib.Core.Bool.{Bool, true, false, _&&_, false≢true}
+use mathlib.Core.Bool.{Bool, true, false, false≢true}
 use mathlib.Core.List.{List, [], _∷_}
 use Prim.Native.Nat.{ℕ, zero, suc}
 use native.Mathlib.Omega.{arith}
 use lib.Bits.{bitXor, bitOr, or-add-and, and-le-l, and-le-r, xor-add-and, xor-self}
 use lib.Dec.{eqb}
 use borrow.Author.Tests.{eqb-true, eq-eqb, ne-eqb}
+use Rattle.lists.proofs.Both.{both}
 use Rattle.lists.proofs.Maps.{cons}
 use Rattle.gf128.specs.Bytes.{equal}
-
-both : (s t : Bool) → s && t ≡ true → (s ≡ true) × (t ≡ true)
-both true t h = (refl, h)
-both false t h = absurd (false≢true h)
 
 equal-then-same : (a b : List ℕ) → equal a b ≡ true → a ≡ b
 unfolding equal

@@ -6,6 +6,7 @@ pub mod Parts
 pub mod Fill
 pub mod TableFill
 pub mod Scan
+pub mod Both
 pub mod Finite
 pub mod Bits
 pub mod Xor

@@ -1,4 +1,4 @@
-// Arithmetic modulo q = 59,393. Every u16 is taken, as its residue; every result is below q.
+// Arithmetic modulo q = 59,393. Every u16 is taken, as its residue, but where a name or a contract says reduced; every result is below q.
 ghost use mathlib.Core.Path.{_≡_};
 ghost use Prim.Native.Nat.{_*_, _/_, _%_, _<_, _≤_};
 ghost use Rattle.algebra.specs.Numbers.{addMod, subMod, mulMod};

@@ -7,6 +7,7 @@ use native.Mathlib.Omega.{arith}
 use lib.Dec.{eqb}
 use lib.ListN.{length, getD, take, drop, length-take}
 use borrow.Author.Tests.{eq-eqb, ne-eqb, eqb-true, lt-ltb, le-ltb}
+use Rattle.lists.proofs.Both.{both}
 use Rattle.lists.specs.First.{firstFailing}
 use Rattle.nist_shake256.specs.Lines.{inLine, withoutReturn, lineOf, startsWith, valueOf}
 
@@ -15,11 +16,6 @@ pub same-test : (r s : Bool) → (r ≡ true → s ≡ true) → (s ≡ true →
 same-test true s f g = sym (f refl)
 same-test false true f g = g refl
 same-test false false f g = refl
-
-both : (a b : Bool) → (a && b) ≡ true → (a ≡ true) × (b ≡ true)
-both true b e = (refl, e)
-both false true e = (e, refl)
-both false false e = (e, e)
 
 pub starts-short : (prefix text : List ℕ) → length text < length prefix → startsWith prefix text ≡ false
 unfolding startsWith

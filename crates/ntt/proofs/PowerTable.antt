@@ -1,13 +1,14 @@
 -- The powers of ψ: the rule of the constant table, tested once over the whole table; ψ is the least root.
 use mathlib.Core.Path.{_≡_, refl, sym, ap, subst, _∙_}
 use mathlib.Core.Logic.{_≢_}
-use mathlib.Core.Bool.{Bool, true, false, _&&_}
+use mathlib.Core.Bool.{Bool, true, _&&_}
 use mathlib.Core.List.{List, [], _∷_}
 use Prim.Native.Nat.{ℕ, zero, suc, _+_, _^_, _%_, _<_}
 use native.Mathlib.Nat.{add-zero, add-suc, suc-add, pow-succ', mul-comm}
 use native.Mathlib.Omega.{arith}
 use lib.Dec.{T, eqb, eqb→eq}
 use lib.ListN.{length, getD}
+use Rattle.lists.proofs.Both.{both-computed}
 use Rattle.lists.proofs.Tables.{getD-table, table-is}
 use Rattle.algebra.specs.Numbers.{mulMod, powMod}
 use Rattle.algebra.proofs.Residues.{mod-mul-left}
@@ -23,15 +24,11 @@ abbrev pub powersFrom : ℕ → List ℕ → Bool
 powersFrom x [] = true
 powersFrom x (y ∷ ys) = eqb y x && powersFrom (mulMod q y ψ) ys
 
-both : (a b : Bool) → T (a && b) → T a × T b
-both true b t = (tt, t)
-both false b t = absurd t
-
 entries : (i : ℕ) (l : List ℕ) → T (powersFrom (power i) l) → (k : ℕ) → k < length l → getD l k 0 ≡ power (i + k)
 entries i [] t k h = absurd (omega arith)
-entries i (y ∷ ys) t zero h = eqb→eq y (power i) (both (eqb y (power i)) (powersFrom (mulMod q y ψ) ys) t .0) ∙ ap power (sym (add-zero i))
+entries i (y ∷ ys) t zero h = eqb→eq y (power i) (both-computed (eqb y (power i)) (powersFrom (mulMod q y ψ) ys) t .0) ∙ ap power (sym (add-zero i))
 entries i (y ∷ ys) t (suc k) h =
-    let (same, rest) = both (eqb y (power i)) (powersFrom (mulMod q y ψ) ys) t in
+    let (same, rest) = both-computed (eqb y (power i)) (powersFrom (mulMod q y ψ) ys) t in
     let first : y ≡ power i = eqb→eq y (power i) same in
     let next : mulMod q y ψ ≡ power (suc i) = ap (λ (n : ℕ). mulMod q n ψ) first ∙ sym (power-suc i) in
     entries (suc i) ys (subst (λ (n : ℕ). T (powersFrom n ys)) next rest) k (omega arith) ∙ ap power (suc-add i k ∙ sym (add-suc i k))

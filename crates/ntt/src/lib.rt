@@ -21,7 +21,9 @@ fn powers() -> [u16; 1024]
     table::POWERS
 }
 
-// Each word times the factor whose form is w.
+// ---- multiples
+
+// Each word times the number whose form is w.
 fn scaled(w: u16, a: [u16; 1024]) -> [u16; 1024]
     requires { ⌜ w < q ⌝ }
     ensures { λ r. ⌜ r ≡ scale q degree (fromMontgomery w) a ⌝ }
@@ -223,7 +225,7 @@ fn halves(p: &mut [u16], v: &[u32])
     }
 }
 
-// On the entries at even places, then those at odd places.
+// A layer back, from the entries at even places, then those at odd places.
 fn backward_layer(r: &mut [u16], p: &[u16], w: &[u16], k: usize)
     requires { ⌜ (length (now r) ≡ 1024) × (length (now p) ≡ 1024) × Below q (now p) × (k < 10) ⌝ }
     requires { ⌜ now w ≡ backwardFactors ⌝ }

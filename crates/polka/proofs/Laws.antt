@@ -1,12 +1,13 @@
 -- What the calls cite: lengths that fit, a key as it was prepared, and what an outcome makes of answer and output.
-use mathlib.Core.Path.{_≡_, refl, sym, ap, ap₂, _∙_}
-use mathlib.Core.Bool.{Bool, true, false, cond, _&&_, false≢true}
+use mathlib.Core.Path.{_≡_, refl, ap, ap₂, _∙_}
+use mathlib.Core.Bool.{Bool, true, false, cond, _&&_}
 use mathlib.Core.List.{List}
 use Prim.Native.Nat.{ℕ}
 use lib.Dec.{eqb}
 use lib.ListN.{length}
 use borrow.Author.Tests.{eqb-true}
 use Rattle.lists.specs.Table.{zeros}
+use Rattle.lists.proofs.Both.{both}
 use Rattle.ntt.specs.Spectrum.{spectrumOf, coefficientsOf}
 use Rattle.ring.specs.Ring.{n}
 use Rattle.ring.specs.Invertible.{inverseOf}
@@ -37,10 +38,6 @@ use Rattle.keys.specs.Prepared.{Prepared}
 use Rattle.polka.specs.Parts.{asTriple, answered}
 
 -- ---- lengths
-
-both : (x y : Bool) → x && y ≡ true → (x ≡ true) × (y ≡ true)
-both true y e = (refl, e)
-both false y e = absurd (false≢true e)
 
 pub three-fit : (i j k a b c : ℕ) → eqb i a && eqb j b && eqb k c ≡ true → (i ≡ a) × (j ≡ b) × (k ≡ c)
 three-fit i j k a b c e =

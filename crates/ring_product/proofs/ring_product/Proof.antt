@@ -1,11 +1,11 @@
 use mathlib.Core.Path.{_≡_, sym, ap, ap₂, _∙_}
-use mathlib.Core.Bool.{Bool, true, false, false≢true, _&&_}
-use Prim.Native.Nat.{ℕ}
+use mathlib.Core.Bool.{true, false, _&&_}
 use denote.Ref.{now}
 use lib.Dec.{eqb}
 use lib.ListN.{length}
 use borrow.Author.Tests.{not-true, not-false, eqb-true}
 use borrow.Author.Needs.{needs}
+use Rattle.lists.proofs.Both.{both}
 use Rattle.ring.specs.Ring.{product}
 use Rattle.encoding.specs.Words.{elementBytes}
 use Rattle.encoding.proofs.Words.{length-elementBytes}
@@ -13,10 +13,6 @@ use Rattle.encoding.proofs.Buffers.{put-exact}
 use Rattle.ring_product.specs.Product.{fit, productNumber, productOut}
 use Rattle.ring_product.proofs.ring_product.Statement.{statement}
 use Rattle.ring_product.proofs.ring_product.Tie as tie
-
-last-equal : (x : Bool) (i j : ℕ) → x && eqb i j ≡ true → i ≡ j
-last-equal true i j e = eqb-true i j e
-last-equal false i j e = absurd (false≢true e)
 
 returns : tie.Need-returns
 unfolding productNumber productOut
@@ -48,7 +44,7 @@ returns-2 c =
     let left = made .before .before .before in
     let args = left .before .before .before .before .args in
     let fits : fit (now (args .a)) (now (args .b)) (now (args .out)) ≡ true = not-false _ (left .if1 .left) in
-    let room : length (now (args .out)) ≡ 2048 = last-equal (eqb (length (now (args .a))) 2048 && eqb (length (now (args .b))) 2048) _ _ fits in
+    let room : length (now (args .out)) ≡ 2048 = eqb-true _ _ (both (eqb (length (now (args .a))) 2048 && eqb (length (now (args .b))) 2048) _ fits .1) in
     let value = made .product .ensures ∙ ap₂ product (made .before .before .decode-element .ensures) (made .before .decode-element2 .ensures) in (
       rw fits,
       rw fits (written .encode-element .ensures ∙ put-exact _ _ (length-elementBytes _ ∙ sym room) ∙ ap elementBytes value),
