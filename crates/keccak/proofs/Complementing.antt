@@ -10,7 +10,7 @@ use lib.ListN.{getD}
 use Rattle.lists.proofs.Xor.{xor-swap}
 use Rattle.keccak.specs.Constants.{offset}
 use Rattle.keccak.specs.Keccak.{State, lane, plane, state, rotate, complement, parity, effect, theta, rho, pi, chi, iota, round, rounds, keccakF}
-use Rattle.keccak.specs.Complementing.{complementIf, complementedBy, marks, marksBeforeChi, complemented, gathered, complementedChi, complementedRound}
+use Rattle.keccak.specs.Complementing.{complementIf, complementedBy, marks, marksBeforeChi, complemented, complementedChiPlane, complementedChi, complementedRound}
 use Rattle.keccak.proofs.States.{lane-state, state-same}
 use Rattle.keccak.proofs.Bits.{Wide, parity-lt, theta-wide, rho-wide, pi-wide, wide-state, rounds-wide}
 use Rattle.keccak.proofs.Words.{rotate-xor, xor-ones, not-lt, not-not, xor-not, not-xor, not-xor-not, not-or}
@@ -161,7 +161,7 @@ module _ (p : List ℕ) (h : (x : ℕ) → getD p x 0 < 2 ^ 64) where
   abbrev b : ℕ → ℕ
   b x = getD p x 0
 
-  pub chi-0 : complementedChi 0 p
+  pub chi-0 : complementedChiPlane 0 p
       ≡ bitXor (b 0) (bitOr (b 1) (b 2))
       ∷ bitXor (b 1) (bitOr (complement (b 2)) (b 3))
       ∷ bitXor (b 2) (bitAnd (b 3) (b 4))
@@ -176,7 +176,7 @@ module _ (p : List ℕ) (h : (x : ℕ) → getD p x 0 < 2 ^ 64) where
       (or-in (b 3) (b 4) (b 0) (h 3) (h 4) (h 0))
       (and-in (b 4) (b 0) (b 1) (h 4) (h 0) (h 1))
 
-  pub chi-1 : complementedChi 1 p
+  pub chi-1 : complementedChiPlane 1 p
       ≡ bitXor (b 0) (bitOr (b 1) (b 2))
       ∷ bitXor (b 1) (bitAnd (b 2) (b 3))
       ∷ bitXor (b 2) (bitOr (b 3) (complement (b 4)))
@@ -191,7 +191,7 @@ module _ (p : List ℕ) (h : (x : ℕ) → getD p x 0 < 2 ^ 64) where
       (or-out (b 3) (b 4) (b 0) (h 3) (h 4) (h 0))
       (and-in (b 4) (b 0) (b 1) (h 4) (h 0) (h 1))
 
-  pub chi-2 : complementedChi 2 p
+  pub chi-2 : complementedChiPlane 2 p
       ≡ bitXor (b 0) (bitOr (b 1) (b 2))
       ∷ bitXor (b 1) (bitAnd (b 2) (b 3))
       ∷ bitXor (b 2) (bitAnd (complement (b 3)) (b 4))
@@ -206,7 +206,7 @@ module _ (p : List ℕ) (h : (x : ℕ) → getD p x 0 < 2 ^ 64) where
       (or-not (b 3) (b 4) (b 0) (h 3) (h 4) (h 0))
       (and-in (b 4) (b 0) (b 1) (h 4) (h 0) (h 1))
 
-  pub chi-3 : complementedChi 3 p
+  pub chi-3 : complementedChiPlane 3 p
       ≡ bitXor (b 0) (bitAnd (b 1) (b 2))
       ∷ bitXor (b 1) (bitOr (b 2) (b 3))
       ∷ bitXor (b 2) (bitOr (complement (b 3)) (b 4))
@@ -221,7 +221,7 @@ module _ (p : List ℕ) (h : (x : ℕ) → getD p x 0 < 2 ^ 64) where
       (and-in (complement (b 3)) (b 4) (b 0) (not-lt (b 3)) (h 4) (h 0))
       (or-in (b 4) (b 0) (b 1) (h 4) (h 0) (h 1))
 
-  pub chi-4 : complementedChi 4 p
+  pub chi-4 : complementedChiPlane 4 p
       ≡ bitXor (b 0) (bitAnd (complement (b 1)) (b 2))
       ∷ bitXor (complement (b 1)) (bitOr (b 2) (b 3))
       ∷ bitXor (b 2) (bitAnd (b 3) (b 4))
@@ -238,18 +238,9 @@ module _ (p : List ℕ) (h : (x : ℕ) → getD p x 0 < 2 ^ 64) where
 
 -- ---- a round, and the rounds
 
--- plane y of the next state, before iota
-abbrev pub newPlane : State → ℕ → List ℕ
-newPlane a y = complementedChi y (gathered a (plane (effect a)) y)
-
--- it is made by three calls
-pub new-plane : (a : State) (y : ℕ) {d g p : List ℕ} → d ≡ plane (effect a) → g ≡ gathered a d y → p ≡ complementedChi y g → p ≡ newPlane a y
-new-plane a y effects gather chi = chi ∙ ap (complementedChi y) (gather ∙ ap (λ (d : List ℕ). gathered a d y) effects)
-
-pub round-planes : (ir : ℕ) (a : State) → Wide a
-    → iota ir (newPlane a 0 ∷ newPlane a 1 ∷ newPlane a 2 ∷ newPlane a 3 ∷ newPlane a 4 ∷ []) ≡ complementedRound ir a
+pub round-steps : (ir : ℕ) (a : State) → Wide a → iota ir (complementedChi (pi (rho (theta a)))) ≡ complementedRound ir a
 unfolding complementedRound complemented round
-round-planes ir a w = ap (λ (s : State). complementedBy marks (iota ir (chi s))) (sym (linear-complemented a w))
+round-steps ir a w = ap (λ (s : State). complementedBy marks (iota ir (chi s))) (sym (linear-complemented a w))
 
 -- complementing undoes itself, on the lanes
 complemented-twice : (a : State) → Wide a → complemented (complemented a) ≡ state (lane a)

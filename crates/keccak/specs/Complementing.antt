@@ -1,9 +1,8 @@
 -- Lane complementing: six lanes of the state are held complemented between the rounds, so that chi needs few complements of its own.
 use mathlib.Core.List.{List, [], _∷_}
 use Prim.Native.Nat.{ℕ, zero, suc}
-use lib.Bits.{bitXor}
 use lib.ListN.{getD}
-use Rattle.keccak.specs.Keccak.{State, lane, plane, state, complement, pi, rho, chiPlane, round}
+use Rattle.keccak.specs.Keccak.{State, lane, plane, state, complement, chiPlane, round}
 
 -- v for the mark 0, its complement for the mark 1
 abbrev pub complementIf : ℕ → ℕ → ℕ
@@ -40,13 +39,19 @@ marksBeforeChi =
 unfoldable pub complemented : State → State
 complemented a = complementedBy marks a
 
--- plane y of the state before chi, where theta adds d
-abbrev pub gathered : State → List ℕ → ℕ → List ℕ
-gathered a d y = getD (pi (rho (state (λ x y. bitXor (lane a x y) (getD d x 0))))) y []
-
 -- Algorithm 4 on plane y, complemented before and after
-abbrev pub complementedChi : ℕ → List ℕ → List ℕ
-complementedChi y p = planeBy (getD marks y []) (chiPlane (planeBy (getD marksBeforeChi y []) p))
+abbrev pub complementedChiPlane : ℕ → List ℕ → List ℕ
+complementedChiPlane y p = planeBy (getD marks y []) (chiPlane (planeBy (getD marksBeforeChi y []) p))
+
+-- Algorithm 4, the same
+abbrev pub complementedChi : State → State
+complementedChi a =
+    complementedChiPlane 0 (getD a 0 [])
+    ∷ complementedChiPlane 1 (getD a 1 [])
+    ∷ complementedChiPlane 2 (getD a 2 [])
+    ∷ complementedChiPlane 3 (getD a 3 [])
+    ∷ complementedChiPlane 4 (getD a 4 [])
+    ∷ []
 
 -- Rnd, complemented before and after
 unfoldable pub complementedRound : ℕ → State → State

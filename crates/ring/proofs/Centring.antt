@@ -52,7 +52,7 @@ unfolding residue
 residue-below (pos m) = mod-lt m q-positive
 residue-below (negsuc m) = mod-lt _ q-positive
 
-pub residue-neg : (m : ℕ) → 0 < m → m < q → residue (negℤ (pos m)) ≡ q - m
+residue-neg : (m : ℕ) → 0 < m → m < q → residue (negℤ (pos m)) ≡ q - m
 unfolding residue
 residue-neg zero h l = absurd (omega arith)
 residue-neg (suc m) h l = omega arith

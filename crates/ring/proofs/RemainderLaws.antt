@@ -1,6 +1,5 @@
 -- The remainder by 5 between - 2 and 2: bounds, m = remainder + 5 w, and that it is the only one.
 use mathlib.Core.Path.{_≡_, refl, sym, ap, ap₂, _∙_}
-use mathlib.Core.Logic.{_⊎_, inl, inr}
 use mathlib.Core.List.{List}
 use Prim.Native.Nat.{ℕ, zero, suc, _+_, _-_, _*_, _/_, _%_, _<_, _≤_}
 use native.Mathlib.Nat.{mod-eq-of-lt, le-trans}
@@ -16,8 +15,7 @@ use Rattle.algebra.proofs.Numbers.{element-table}
 use Rattle.ring.specs.Ring.{q, n, Element}
 use Rattle.ring.specs.Centred.{centred, residue, aroundZero, centredRemainder, remainderOf, remainders, Within}
 use Rattle.ring.proofs.Integers.{minus-up, sub-down, abs-neg, abs-plus, abs-multiple, multiple-neg}
-use Rattle.ring.proofs.Centring.{centred-low, centred-high, centred-same, centred-size, centred-residue}
-use Rattle.ring.proofs.Centring.{residue-below, residue-neg, residue-centred, residue-combination}
+use Rattle.ring.proofs.Centring.{centred-same, centred-size, residue-below, residue-centred, centred-residue, residue-combination}
 
 -- ---- 0, 1, 2, 3, 4
 
@@ -120,45 +118,6 @@ remainder-recovers c e w h he hw =
 
     is-total : centred c ≡ total
     is-total = centred-same c (residue total) (h ∙ sym (residue-combination e 5 w) ∙ sym (mod-eq-of-lt (residue-below total))) ∙ centred-residue total bound
-
--- ---- without integers: z is the centred value modulo 5, and 3 and 4 stand for - 2 and - 1
-
-around-opposite : (r s : ℕ) → r < 5 → s < 5 → (r + s) % 5 ≡ 0 → negℤ (aroundZero r) ≡ aroundZero s
-around-opposite r s hr hs e = by (decLe r 2) (decLe s 2)
-  where
-    by : Dec (r ≤ 2) → Dec (s ≤ 2) → negℤ (aroundZero r) ≡ aroundZero s
-    by (yes h) (yes g) =
-        let a : r ≡ 0 = omega arith in
-        let b : s ≡ 0 = omega arith in
-        rw (a, b, around-low 0 (omega arith)) refl
-    by (yes h) (no g) =
-        let a : 5 - s ≡ r = omega arith in
-        rw (around-low r h, around-high s (omega arith) hs, a) refl
-    by (no h) (yes g) =
-        let a : 5 - r ≡ s = omega arith in
-        rw (around-high r (omega arith) hr, around-low s g, a) (negℤ-negℤ (pos s))
-    by (no h) (no g) = absurd (omega arith)
-
--- y, or y less 29,693
-abbrev pub Folded : ℕ → ℕ → Type 0
-Folded y z = ((y ≤ 29696) × (z ≡ y)) ⊎ ((29696 < y) × (z ≡ y - 29693))
-
-around-folded : (c z : ℕ) → Folded (c % q) z → centredRemainder (centred c) ≡ aroundZero (z % 5)
-unfolding centredRemainder
-around-folded c z (inl (h, e)) = rw e (ap centredRemainder (centred-low c h))
-around-folded c z (inr (h, e)) = rw e (
-    ap centredRemainder (centred-high c h) ∙ remainder-neg (pos (q - c % q))
-    ∙ around-opposite ((q - c % q) % 5) ((c % q - 29693) % 5) (omega arith) (omega arith) (omega arith))
-
-pub remainder-low : (c z : ℕ) → Folded (c % q) z → z % 5 ≤ 2 → z % 5 ≡ remainderOf c
-unfolding remainderOf residue
-remainder-low c z f h = rw (around-folded c z f, around-low (z % 5) h) (omega arith)
-
-pub remainder-high : (c z : ℕ) → Folded (c % q) z → 2 < z % 5 → z % 5 + 59388 ≡ remainderOf c
-unfolding remainderOf
-remainder-high c z f h =
-    let e : residue (negℤ (pos (5 - z % 5))) ≡ q - (5 - z % 5) = residue-neg (5 - z % 5) (omega arith) (omega arith) in
-    rw (around-folded c z f, around-high (z % 5) h (omega arith)) (omega (arith, e))
 
 pub remainder-below : (c : ℕ) → remainderOf c < q
 unfolding remainderOf

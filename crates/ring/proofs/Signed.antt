@@ -12,7 +12,7 @@ use mir.Syntax.{w32, w16}
 use mir.Val.{SFits, Fits, toZ, ofZ}
 use mir.ValLaws.{toZ-pos, toZ-ofZ, sfits-le}
 use Rattle.ring.specs.Ring.{q}
-use Rattle.ring.specs.Centred.{centred, residue, aroundZero, centredRemainder}
+use Rattle.ring.specs.Centred.{centred, residue, aroundZero, centredRemainder, remainderOf}
 use Rattle.ring.proofs.Integers.{minus-up, sub-down}
 use Rattle.ring.proofs.Centring.{centred-low, centred-high, residue-below}
 use Rattle.ring.proofs.RemainderLaws.{around-low, around-high, remainder-small}
@@ -182,3 +182,10 @@ module _ (m : ℤ) (f : SFits w32 m) where
 
   pub stayed-is : ltZ s (pos 0) ≡ false → s ≡ pos (residue m)
   stayed-is h = s-is ∙ stay m (ap (λ (z : ℤ). ltZ z (pos 0)) (sym s-is) ∙ h)
+
+-- ---- one after the other: each result goes to the next call through its bits
+
+pub remainder-chain : (c : ℕ) (d e : ℤ) (r : ℕ) → SFits w32 d → SFits w32 e
+    → d ≡ centred c → e ≡ centredRemainder (toZ w32 (ofZ w32 d)) → r ≡ residue (toZ w32 (ofZ w32 e)) → r ≡ remainderOf c
+unfolding remainderOf
+remainder-chain c d e r fd fe pd pe pr = pr ∙ ap residue (toZ-ofZ w32 e fe ∙ pe ∙ ap centredRemainder (toZ-ofZ w32 d fd ∙ pd))

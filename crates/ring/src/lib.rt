@@ -82,14 +82,10 @@ pub fn residue(m: i32) -> u16
     if t < 0 { (t + 59393) as u16 } else { t as u16 }
 }
 
-// In words only: above 29,696 the centred value is y - 59,393, which is y - 29,693 modulo 5; and 3 and 4 stand for - 2 and - 1.
 fn remainder_of(c: u16) -> u16
     ensures { λ r. ⌜ r ≡ remainderOf c ⌝ }
 {
-    let y = modq::reduce(c);
-    let z = if y <= 29696 { y } else { y - 29693 };
-    let t = z % 5;
-    if t <= 2 { t } else { t + 59388 }
+    residue(centred_remainder(centred(c)))
 }
 
 // The remainder by 5 of every centred coefficient.

@@ -1,33 +1,22 @@
-use mathlib.Core.Logic.{inl, inr, ⊎-elim}
-use Prim.Native.Nat.{_%_}
 use borrow.Author.Needs.{needs}
-use Rattle.ring.specs.Ring.{q}
-use Rattle.ring.proofs.RemainderLaws.{Folded, remainder-low, remainder-high}
+use Rattle.ring.proofs.Signed.{remainder-chain}
 use Rattle.ring.proofs.remainder_of.Statement.{statement}
 use Rattle.ring.proofs.remainder_of.Tie as tie
 
-folded : (c : tie.Joined1) → Folded (c .before .before .args .c % q) (c .if1 .z)
-folded c =
-    let e = c .before .reduce .ensures in
-    ⊎-elim
-    (λ w. inl (rw e at (w .0 .taken), rw e at (w .1)))
-    (λ w. inr (rw e at (w .0 .left), rw e at (w .1)))
-    (c .if1 .came)
+centred-requires : tie.Need-centred-requires
+centred-requires c κs = search needs
 
-reduce-requires : tie.Need-reduce-requires
-reduce-requires c κs = search needs
+centred-remainder-requires : tie.Need-centred-remainder-requires
+centred-remainder-requires c κs = search needs
 
-sub-z : tie.Need-sub-z
-sub-z c = search needs
-
-add-result : tie.Need-add-result
-add-result c = search needs
+residue-requires : tie.Need-residue-requires
+residue-requires c κs = search needs
 
 returns : tie.Need-returns
-returns c = remainder-low _ _ (folded (c .before .before)) (c .if2 .taken)
-
-returns-2 : tie.Need-returns-2
-returns-2 c = remainder-high _ _ (folded (c .before .before)) (c .if2 .left)
+returns c =
+    let d = c .before .before .centred in
+    let e = c .before .centred-remainder in
+    remainder-chain _ (d .result) (e .result) _ (record { sfits = d .ok }) (record { sfits = e .ok }) (d .ensures) (e .ensures) (c .residue .ensures)
 
 pub remainder-of-spec : {M : Type 1} → statement M
-remainder-of-spec = tie.close (tie.spec reduce-requires sub-z add-result returns returns-2)
+remainder-of-spec = tie.close (tie.spec centred-requires centred-remainder-requires residue-requires returns)

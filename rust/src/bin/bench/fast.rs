@@ -207,11 +207,19 @@ fn within(bound: u16, a: &Element) -> bool {
 
 pub fn remainders(m: &Element) -> Element {
     m.map(|c| {
-        let t = if c <= 29_696 { c } else { c - 29_693 } % 5;
-        if t <= 2 {
-            t
+        let centred = if c <= 29_696 { i32::from(c) } else { i32::from(c) - i32::from(Q) };
+        let t = centred % 5;
+        let t = if t > 2 {
+            t - 5
+        } else if t < -2 {
+            t + 5
         } else {
-            t + 59_388
+            t
+        };
+        if t < 0 {
+            (t + i32::from(Q)) as u16
+        } else {
+            t as u16
         }
     })
 }
