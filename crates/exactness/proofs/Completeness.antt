@@ -3,10 +3,10 @@ use mathlib.Core.Path.{_≡_, ap, _∙_}
 use mathlib.Core.List.{List}
 use Prim.Native.Nat.{ℕ}
 use Rattle.exactness.specs.Setting.{Setting}
-use Rattle.exactness.specs.Scheme.{Triple, found, unmasked, judged, core, decapsulation, TernaryTriple, Encapsulates, SoundKey}
+use Rattle.exactness.specs.Scheme.{Triple, found, withoutDummy, judged, core, decapsulation, TernaryTriple, Encapsulates, SoundKey}
 use Rattle.exactness.specs.Givens.{Givens}
 use Rattle.exactness.specs.Promises.{sums, Step1}
-use Rattle.exactness.proofs.Step1.{step1, sums-unmasked}
+use Rattle.exactness.proofs.Step1.{step1, sums-withoutDummy}
 use Rattle.exactness.proofs.Recovery.{recovered-is}
 use Rattle.exactness.proofs.Outcomes.{judged-passes}
 
@@ -22,5 +22,5 @@ module _ (S : Setting) (G : Givens S) where
       first : Step1 S a b c1 c2 t dummy
       first = step1 S G a b c1 c2 t dummy (key .a-element) (key .b-element) m hd
 
-      same : unmasked S dummy (sums S t dummy) ≡ t
-      same = sums-unmasked S G t dummy (m .0) hd
+      same : withoutDummy S dummy (sums S t dummy) ≡ t
+      same = sums-withoutDummy S G t dummy (m .0) hd

@@ -6,7 +6,7 @@ use Prim.Native.Nat.{ℕ}
 use native.Mathlib.Omega.{arith}
 use Rattle.exactness.specs.Setting.{Setting, Element}
 use Rattle.exactness.specs.Scheme.{Triple, Outcome, found, failed, provided, TernaryTriple}
-use Rattle.exactness.specs.Scheme.{unmasked, recovers?, ternary?, judged, core, decapsulation}
+use Rattle.exactness.specs.Scheme.{withoutDummy, recovers?, ternary?, judged, core, decapsulation}
 use Rattle.exactness.specs.Givens.{Givens}
 use Rattle.exactness.specs.Promises.{TripleWithin}
 use Rattle.exactness.proofs.Elements.{difference-element}
@@ -59,26 +59,26 @@ module _ (S : Setting) (G : Givens S) where
 
   -- ---- steps 4 and 5
 
-  pub judged-passes : (dummy t : Triple) → TripleWithin S 2 t → TernaryTriple S (unmasked S dummy t) → judged S dummy t ≡ found (unmasked S dummy t)
+  pub judged-passes : (dummy t : Triple) → TripleWithin S 2 t → TernaryTriple S (withoutDummy S dummy t) → judged S dummy t ≡ found (withoutDummy S dummy t)
   unfolding judged
   judged-passes dummy t h g =
-      provided-true (recovers? S t) _ (recovers-true t h) ∙ provided-true (ternary? S (unmasked S dummy t)) _ (ternary-true (unmasked S dummy t) g)
+      provided-true (recovers? S t) _ (recovers-true t h) ∙ provided-true (ternary? S (withoutDummy S dummy t)) _ (ternary-true (withoutDummy S dummy t) g)
 
   -- what is found is R, E1, E2 less the dummy, and passed the last test
-  pub judged-found : (dummy t u : Triple) → judged S dummy t ≡ found u → (ternary? S (unmasked S dummy t) ≡ true) × (unmasked S dummy t ≡ u)
+  pub judged-found : (dummy t u : Triple) → judged S dummy t ≡ found u → (ternary? S (withoutDummy S dummy t) ≡ true) × (withoutDummy S dummy t ≡ u)
   unfolding judged
   judged-found dummy t u e =
       let (near, rest) = provided-found (recovers? S t) _ u e in
-      let (short, same) = provided-found (ternary? S (unmasked S dummy t)) _ u rest in
-      (short, found-same (unmasked S dummy t) u same)
+      let (short, same) = provided-found (ternary? S (withoutDummy S dummy t)) _ u rest in
+      (short, found-same (withoutDummy S dummy t) u same)
 
   -- so it is ternary, whatever the dummy, R, E1 and E2
   judged-ternary : (dummy t u : Triple) → judged S dummy t ≡ found u → TernaryTriple S u
-  unfolding unmasked
+  unfolding withoutDummy
   judged-ternary dummy t u e =
       let (short, same) = judged-found dummy t u e in
       subst (TernaryTriple S) same
-      (true-ternary (unmasked S dummy t) (difference-element S G _ _) (difference-element S G _ _) (difference-element S G _ _) short)
+      (true-ternary (withoutDummy S dummy t) (difference-element S G _ _) (difference-element S G _ _) (difference-element S G _ _) short)
 
   pub found-ternary : (a b i s : List ℕ) (dummy : Triple) (c1 c2 : List ℕ) (t : Triple) → decapsulation S a b i s dummy c1 c2 ≡ found t
       → TernaryTriple S t

@@ -3,7 +3,7 @@ use mathlib.Core.Path.{_≡_, ap, _∙_}
 use mathlib.Core.List.{List}
 use Prim.Native.Nat.{ℕ}
 use Rattle.exactness.specs.Setting.{Setting, Element, Bounded, Ternary, sum}
-use Rattle.exactness.specs.Scheme.{Triple, summed, unmasked, TernaryTriple, Encapsulates}
+use Rattle.exactness.specs.Scheme.{Triple, summed, withoutDummy, TernaryTriple, Encapsulates}
 use Rattle.exactness.specs.Givens.{Givens}
 use Rattle.exactness.specs.Promises.{sums, Step1}
 use Rattle.exactness.proofs.Elements.{sum-element}
@@ -35,9 +35,9 @@ module _ (S : Setting) (G : Givens S) where
   }
 
   -- step 5 takes the dummy away again
-  pub sums-unmasked : (t d : Triple) → TernaryTriple S t → TernaryTriple S d → unmasked S d (sums S t d) ≡ t
-  unfolding unmasked sums
-  sums-unmasked t d ht hd = same-triple _ t
+  pub sums-withoutDummy : (t d : Triple) → TernaryTriple S t → TernaryTriple S d → withoutDummy S d (sums S t d) ≡ t
+  unfolding withoutDummy sums
+  sums-withoutDummy t d ht hd = same-triple _ t
       (sum-less S G (t .r) (d .r) (ht .r-ternary .0) (hd .r-ternary .0))
       (sum-less S G (t .e1) (d .e1) (ht .e1-ternary .0) (hd .e1-ternary .0))
       (sum-less S G (t .e2) (d .e2) (ht .e2-ternary .0) (hd .e2-ternary .0))

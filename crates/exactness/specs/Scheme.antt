@@ -59,8 +59,8 @@ module _ (S : Setting) where
   recoveredE1 a s1 r = difference S s1 (S .product a r)
 
   -- step 5, of R, E1, E2
-  unfoldable pub unmasked : Triple → Triple → Triple
-  unmasked dummy t = record {
+  unfoldable pub withoutDummy : Triple → Triple → Triple
+  withoutDummy dummy t = record {
     r = difference S (t .r) (dummy .r);
     e1 = difference S (t .e1) (dummy .e1);
     e2 = difference S (t .e2) (dummy .e2);
@@ -80,7 +80,7 @@ module _ (S : Setting) where
 
   -- the tests of steps 4 and 5, of R, E1, E2
   unfoldable pub judged : Triple → Triple → Outcome
-  judged dummy t = provided (recovers? t) (provided (ternary? (unmasked dummy t)) (found (unmasked dummy t)))
+  judged dummy t = provided (recovers? t) (provided (ternary? (withoutDummy dummy t)) (found (withoutDummy dummy t)))
 
   -- steps 2 to 5, from the sums and the product of the first with s; step 3 is `remainders`
   unfoldable pub core : List ℕ → List ℕ → Triple → List ℕ → List ℕ → List ℕ → Outcome

@@ -5,11 +5,18 @@ ghost use Rattle.algebra.specs.Numbers.{addMod, subMod, mulMod};
 ghost use Rattle.modq.specs.Modulus.{q, reciprocalOf};
 ghost use Rattle.modq.specs.Montgomery.{montgomeryForm, montgomeryProduct};
 
+// q, and q at other widths.
+pub const Q: u16 = 59393;
+
+pub const Q_U32: u32 = Q as u32;
+
+pub const Q_I32: i32 = Q as i32;
+
 // A word is below 2 q.
 pub fn reduce(x: u16) -> u16
     ensures { λ r. ⌜ r ≡ x % q ⌝ }
 {
-    if 59393 <= x { x - 59393 } else { x }
+    if Q <= x { x - Q } else { x }
 }
 
 // Of words that are reduced already. What is borrowed is chosen before the difference is made: so every step fits a word, and the
@@ -18,7 +25,7 @@ pub fn sub_reduced(a: u16, b: u16) -> u16
     requires { ⌜ (a < q) × (b ≤ q) ⌝ }
     ensures { λ r. ⌜ r ≡ subMod q a b ⌝ }
 {
-    let borrowed = if a < b { 59393u32 } else { 0u32 };
+    let borrowed = if a < b { Q_U32 } else { 0u32 };
     (a as u32 + borrowed - b as u32) as u16
 }
 
@@ -26,7 +33,7 @@ pub fn add_reduced(a: u16, b: u16) -> u16
     requires { ⌜ (a < q) × (b < q) ⌝ }
     ensures { λ r. ⌜ r ≡ addMod q a b ⌝ }
 {
-    sub_reduced(a, 59393 - b)
+    sub_reduced(a, Q - b)
 }
 
 pub fn add(a: u16, b: u16) -> u16
@@ -44,7 +51,7 @@ pub fn sub(a: u16, b: u16) -> u16
 pub fn mul(a: u16, b: u16) -> u16
     ensures { λ r. ⌜ r ≡ mulMod q a b ⌝ }
 {
-    (a as u32 * b as u32 % 59393) as u16
+    (a as u32 * b as u32 % Q_U32) as u16
 }
 
 // ---- products by a factor in Montgomery's form, 2^16 times the factor: no division, and eight words at a time
@@ -64,9 +71,9 @@ fn low(a: u16, b: u16) -> u16
 // The high half of m q, where m is w y / q modulo 2^16 (6145 is 1 / q). The low half of m q is that of w y, so w y - m q is
 // 2^16 times high(w, y) - reduction(w, y).
 fn reduction(w: u16, y: u16) -> u16
-    ensures { λ r. ⌜ r ≡ ((((w * y) % 65536) * 6145) % 65536) * 59393 / 65536 ⌝ }
+    ensures { λ r. ⌜ r ≡ ((((w * y) % 65536) * 6145) % 65536) * q / 65536 ⌝ }
 {
-    high(low(low(w, y), 6145), 59393)
+    high(low(low(w, y), 6145), Q)
 }
 
 pub fn montgomery_product(w: u16, y: u16) -> u16
@@ -90,9 +97,9 @@ pub fn montgomery_form(x: u16) -> u16
 pub fn reciprocal(x: u16) -> u16
     ensures { λ r. ⌜ r ≡ reciprocalOf x ⌝ }
 {
-    let y = x % 59393;
+    let y = x % Q;
     if y <= 1 {
         return y;
     }
-    mul(59393 - 59393 / y, reciprocal(59393 % y))
+    mul(Q - Q / y, reciprocal(Q % y))
 }

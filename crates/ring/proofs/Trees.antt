@@ -8,77 +8,99 @@ use native.Mathlib.Nat.{mod-lt, zero-mul, two-pow-succ}
 use native.Mathlib.Decide.{ℕ-discrete, decLt}
 use native.Mathlib.Numerals.{add-one}
 use native.Mathlib.Omega.{arith}
-use lib.ListN.{length, getD, drop, set, length-set, length-drop}
+use lib.ListN.{length, getD, drop, length-append, length-drop}
 use lib.Pow.{pow-mono}
-use lib.Seq.{getD-set-same, getD-set-other, getD-drop}
+use lib.Seq.{getD-drop, drop-at}
+use Rattle.lists.specs.Table.{zeros}
 use Rattle.lists.proofs.Tables.{table-is}
+use Rattle.lists.proofs.Zeros.{size-zeros}
 use Rattle.algebra.specs.Numbers.{mulMod}
 use Rattle.algebra.proofs.Residues.{mod-mul-left}
 use Rattle.modq.specs.Modulus.{reciprocalOf}
 use Rattle.modq.proofs.Prime.{q-positive}
 use Rattle.modq.proofs.Products.{mulMod-comm, inverse-factor}
 use Rattle.modq.proofs.Reciprocals.{reciprocal-is, reciprocal-none, reciprocal-times, reciprocal-below, nonzero-product}
+use Rattle.ntt.specs.Layers.{layers}
+use Rattle.ntt.proofs.Layers.{layers-zero, layers-suc}
 use Rattle.ring.specs.Ring.{q, n}
 use Rattle.ring.specs.Reciprocals.{nonzero?, hasZero, reciprocalsOf}
-use Rattle.ring.specs.Tree.{Multiplied, Tree, Inverted, Inverse, Inverses}
+use Rattle.ring.specs.Tree.{leavesOf, productBelow, multipliedLevel, productsOf, invertedLevel, invertedTop, inversesOf}
+use Rattle.ring.proofs.Levels.{length-multiplied, multiplied-at, multiplied-below, length-inverted, left-at, right-at}
 use Rattle.ring.proofs.Scans.{nonzero-true, nonzero-false, no-zero, some-zero}
 
 -- ---- the sizes of the levels
 
-pub level-small : {k : ℕ} → k < 10 → 2 ^ k ≤ 512
-level-small {k} h = pow-mono {i = k} {j = 9} (omega arith)
+pub level-small : (k : ℕ) → k < 10 → 2 ^ k ≤ 512
+level-small k h = pow-mono {i = k} {j = 9} (omega arith)
 
 pub level-next : (k : ℕ) → 2 ^ (k + 1) ≡ 2 * 2 ^ k
 level-next k = ap (λ (e : ℕ). 2 ^ e) (add-one k) ∙ two-pow-succ k ∙ omega arith
 
 -- ---- up: the products
 
-pub multiplied-none : (m : ℕ) (g : List ℕ) → Multiplied m 0 g g
-multiplied-none m g = record { size = refl; same = λ k l. refl; product = λ j l. absurd (omega arith) }
+-- over the leaves t, from level 2^i on, each entry of h is the product of the two below it
+pub record Tree (t h : List ℕ) (i : ℕ) : Type 0 where
+  pub leaf : (j : ℕ) → j < n → getD h (n + j) 0 ≡ getD t j 0
+  pub product : (e : ℕ) → i ≤ e → e < 10 → (j : ℕ) → j < 2 ^ e → getD h (2 ^ e + j) 0 ≡ productBelow (2 ^ e) h j
 
-pub multiplied-more : {m i v : ℕ} {g h : List ℕ} → i < m → m + i < length g → Multiplied m i g h
-    → v ≡ mulMod q (getD h (2 * m + i) 0) (getD h (3 * m + i) 0) → Multiplied m (i + 1) g (set h (m + i) v)
-multiplied-more {m} {i} {v} {g} {h} l inside old e = record {
-  size = length-set h (m + i) v ∙ old .size;
-  same = λ k a. getD-set-other h (m + i) k v 0 (omega arith) ∙ old .same k a;
-  product = λ j a. by j a (ℕ-discrete j i);
-}
-  where
-    by : (j : ℕ) → j < i + 1 → Dec (j ≡ i) → getD (set h (m + i) v) (m + j) 0 ≡ mulMod q (getD g (2 * m + j) 0) (getD g (3 * m + j) 0)
-    by j a (yes p) =
-        rw p (getD-set-same h (m + i) v 0 (omega (arith, old .size)) ∙ e ∙ ap₂ (mulMod q) (old .same (2 * m + i) (omega arith)) (old .same (3 * m + i) (omega arith)))
-    by j a (no p) = getD-set-other h (m + i) (m + j) v 0 (λ d. p (omega arith)) ∙ old .product j (omega arith)
-
-pub tree-none : (l : List ℕ) → Tree (drop n l) l 10
+tree-none : (l : List ℕ) → Tree (drop n l) l 10
 tree-none l = record { leaf = λ j h. sym (getD-drop n l j 0); product = λ e a b. absurd (omega arith) }
 
-pub tree-more : {t g h : List ℕ} {k : ℕ} → k < 10 → Tree t g (k + 1) → Multiplied (2 ^ k) (2 ^ k) g h → Tree t h k
-tree-more {t} {g} {h} {k} below old new = record {
-  leaf = λ j l. new .same (n + j) (omega (arith, level-small below)) ∙ old .leaf j l;
+tree-more : {t g : List ℕ} {k : ℕ} → k < 10 → length g ≡ 2 * n → Tree t g (k + 1) → Tree t (multipliedLevel (2 ^ k) g) k
+tree-more {t} {g} {k} small size old = record {
+  leaf = λ j l. below (n + j) (omega (arith, fits)) ∙ old .leaf j l;
   product = λ e a b. by e a b (ℕ-discrete k e);
 }
   where
-    Level : List ℕ → List ℕ → ℕ → Type 0
-    Level x y m = (j : ℕ) → j < m → getD x (m + j) 0 ≡ mulMod q (getD y (2 * m + j) 0) (getD y (3 * m + j) 0)
+    h : List ℕ
+    h = multipliedLevel (2 ^ k) g
+
+    fits : 2 * 2 ^ k ≤ n
+    fits = omega (arith, level-small k small)
+
+    below : (i : ℕ) → 2 * 2 ^ k ≤ i → getD h i 0 ≡ getD g i 0
+    below = multiplied-below (2 ^ k) g (omega (arith, fits))
 
     -- what is below level k is as it was
-    children : (m : ℕ) → 2 ^ k ≤ m → (j : ℕ)
-        → mulMod q (getD g (2 * m + j) 0) (getD g (3 * m + j) 0) ≡ mulMod q (getD h (2 * m + j) 0) (getD h (3 * m + j) 0)
-    children m l j = ap₂ (mulMod q) (sym (new .same (2 * m + j) (omega arith))) (sym (new .same (3 * m + j) (omega arith)))
+    children : (m : ℕ) → 2 ^ k ≤ m → (j : ℕ) → productBelow m g j ≡ productBelow m h j
+    children m l j = ap₂ (mulMod q) (sym (below (2 * m + j) (omega arith))) (sym (below (3 * m + j) (omega arith)))
 
-    by : (e : ℕ) → k ≤ e → e < 10 → Dec (k ≡ e) → Level h h (2 ^ e)
-    by e a b (yes p) = subst (λ (i : ℕ). Level h h (2 ^ i)) p (λ j l. new .product j l ∙ children (2 ^ k) (omega arith) j)
+    by : (e : ℕ) → k ≤ e → e < 10 → Dec (k ≡ e) → (j : ℕ) → j < 2 ^ e → getD h (2 ^ e + j) 0 ≡ productBelow (2 ^ e) h j
+    by e a b (yes p) =
+        subst (λ (i : ℕ). (j : ℕ) → j < 2 ^ i → getD h (2 ^ i + j) 0 ≡ productBelow (2 ^ i) h j) p
+        (λ j l. multiplied-at (2 ^ k) g (omega (arith, fits)) j l ∙ children (2 ^ k) (omega arith) j)
     by e a b (no p) = λ j l.
         let far : 2 ^ (k + 1) ≤ 2 ^ e = pow-mono {i = k + 1} {j = e} (omega arith) in
         let next = level-next k in
-        new .same (2 ^ e + j) (omega arith) ∙ old .product e (omega arith) b j l ∙ children (2 ^ e) (omega arith) j
+        below (2 ^ e + j) (omega arith) ∙ old .product e (omega arith) b j l ∙ children (2 ^ e) (omega arith) j
 
--- a tree over given leaves, and over its own
-pub tree-over : {t l h : List ℕ} {i : ℕ} → l ≡ t → Tree l h i → Tree t h i
-tree-over e tree = record { leaf = λ j l. tree .leaf j l ∙ ap (λ (a : List ℕ). getD a j 0) e; product = tree .product }
+abbrev pub Up : ℕ → List ℕ → List ℕ
+Up k = multipliedLevel (2 ^ (9 - k))
 
-pub tree-alone : {t h : List ℕ} {i : ℕ} → Tree t h i → Tree (drop n h) h i
-tree-alone {t} {h} tree = record { leaf = λ j l. sym (getD-drop n h j 0); product = tree .product }
+pub length-up : (k : ℕ) (h : List ℕ) → length h ≡ 2 * n → length (Up k h) ≡ 2 * n
+length-up k h size = length-multiplied (2 ^ (9 - k)) h (omega (arith, level-small (9 - k) (omega arith))) ∙ size
+
+-- after k levels
+tree-levels : (l : List ℕ) → length l ≡ 2 * n → (k : ℕ) → k ≤ 10 → (length (layers Up k l) ≡ 2 * n) × Tree (drop n l) (layers Up k l) (10 - k)
+tree-levels l size zero b = rw (layers-zero Up l) (size, tree-none l)
+tree-levels l size (suc k) b =
+    let (old, tree) = tree-levels l size k (omega arith) in
+    let here : 10 - k ≡ 9 - k + 1 = omega arith in
+    let next : 10 - suc k ≡ 9 - k = omega arith in
+    rw (layers-suc Up k l, next)
+    (length-up k _ old, tree-more (omega arith) old (rw here at tree))
+
+length-leaves : (t : List ℕ) → length t ≡ n → length (leavesOf t) ≡ 2 * n
+unfolding leavesOf
+length-leaves t size = length-append (zeros n) t ∙ ap₂ (λ (x y : ℕ). x + y) (sym (size-zeros n)) size
+
+drop-leaves : (t : List ℕ) → drop n (leavesOf t) ≡ t
+unfolding leavesOf
+drop-leaves t = drop-at (zeros n) t n (sym (size-zeros n))
+
+products-tree : (t : List ℕ) → length t ≡ n → Tree t (productsOf (leavesOf t)) 0
+unfolding productsOf
+products-tree t size = subst (λ (x : List ℕ). Tree x (layers Up 10 (leavesOf t)) 0) (drop-leaves t) (tree-levels (leavesOf t) (length-leaves t size) 10 (omega arith) .1)
 
 -- over leaves that q does not divide, q divides no entry
 nonzero-entry : (t h : List ℕ) → Tree t h 0 → ((k : ℕ) → k < n → getD t k 0 % q ≢ 0)
@@ -100,6 +122,15 @@ nonzero-entry t h tree leaf (suc fuel) e f j l =
 
 -- ---- down: the inverses
 
+-- y is the inverse of x below q; or 0, where there is to be none
+abbrev Inverse : Bool → ℕ → ℕ → Type 0
+Inverse true x y = (mulMod q x y ≡ 1) × (y < q)
+Inverse false x y = y ≡ 0
+
+-- on level m, r has the inverses of the entries of h, if the top of h has one
+record Inverses (h r : List ℕ) (m : ℕ) : Type 0 where
+  inverse : (j : ℕ) → j < m → Inverse (nonzero? (getD h 1 0)) (getD h (m + j) 0) (getD r (m + j) 0)
+
 -- of the top
 top : (x : ℕ) → Inverse (nonzero? x) x (reciprocalOf x)
 top x = by (ℕ-discrete (x % q) 0)
@@ -108,50 +139,13 @@ top x = by (ℕ-discrete (x % q) 0)
     by (yes e) = rw (nonzero-false x e) (reciprocal-none x e)
     by (no e) = rw (nonzero-true x e) (reciprocal-times x e, reciprocal-below x)
 
-pub inverses-one : (h z : List ℕ) (v : ℕ) → 1 < length z → v ≡ reciprocalOf (getD h 1 0) → Inverses h (set z 1 v) 1
-inverses-one h z v l e = record {
-  inverse = λ j f.
+inverses-one : (h : List ℕ) → Inverses h (invertedTop h) 1
+unfolding invertedTop
+inverses-one h = record {
+  inverse = λ j l.
       let p : 1 ≡ 1 + j = omega arith in
-      subst (λ (k : ℕ). Inverse (nonzero? (getD h 1 0)) (getD h k 0) (getD (set z 1 v) k 0)) p
-      (rw (getD-set-same z 1 v 0 l, e) (top (getD h 1 0)));
+      subst (λ (k : ℕ). Inverse (nonzero? (getD h 1 0)) (getD h k 0) (getD (invertedTop h) k 0)) p (top (getD h 1 0));
 }
-
-pub inverted-none : (m : ℕ) (h s : List ℕ) → Inverted m 0 h s s
-inverted-none m h s = record { size = refl; same = λ k l. refl; left = λ j l. absurd (omega arith); right = λ j l. absurd (omega arith) }
-
-pub inverted-more : {m i v w : ℕ} {h s r : List ℕ} → i < m → 3 * m + i < length s → Inverted m i h s r
-    → v ≡ mulMod q (getD r (m + i) 0) (getD h (3 * m + i) 0) → w ≡ mulMod q (getD r (m + i) 0) (getD h (2 * m + i) 0)
-    → Inverted m (i + 1) h s (set (set r (2 * m + i) v) (3 * m + i) w)
-inverted-more {m} {i} {v} {w} {h} {s} {r} l inside old ev ew = record {
-  size = length-set r′ (3 * m + i) w ∙ length-set r (2 * m + i) v ∙ old .size;
-  same = λ k a. other k (omega arith) (omega arith) ∙ old .same k a;
-  left = λ j a. left j a (ℕ-discrete j i);
-  right = λ j a. right j a (ℕ-discrete j i);
-}
-  where
-    r′ : List ℕ
-    r′ = set r (2 * m + i) v
-
-    r″ : List ℕ
-    r″ = set r′ (3 * m + i) w
-
-    other : (k : ℕ) → k ≢ 2 * m + i → k ≢ 3 * m + i → getD r″ k 0 ≡ getD r k 0
-    other k a b = getD-set-other r′ (3 * m + i) k w 0 b ∙ getD-set-other r (2 * m + i) k v 0 a
-
-    parent : getD r (m + i) 0 ≡ getD s (m + i) 0
-    parent = old .same (m + i) (omega arith)
-
-    left : (j : ℕ) → j < i + 1 → Dec (j ≡ i) → getD r″ (2 * m + j) 0 ≡ mulMod q (getD s (m + j) 0) (getD h (3 * m + j) 0)
-    left j a (yes p) =
-        rw p (getD-set-other r′ (3 * m + i) (2 * m + i) w 0 (omega arith) ∙ getD-set-same r (2 * m + i) v 0 (omega (arith, old .size)) ∙ ev
-        ∙ ap (λ (u : ℕ). mulMod q u (getD h (3 * m + i) 0)) parent)
-    left j a (no p) = other (2 * m + j) (λ d. p (omega arith)) (omega arith) ∙ old .left j (omega arith)
-
-    right : (j : ℕ) → j < i + 1 → Dec (j ≡ i) → getD r″ (3 * m + j) 0 ≡ mulMod q (getD s (m + j) 0) (getD h (2 * m + j) 0)
-    right j a (yes p) =
-        rw p (getD-set-same r′ (3 * m + i) w 0 (omega (arith, old .size, length-set r (2 * m + i) v)) ∙ ew
-        ∙ ap (λ (u : ℕ). mulMod q u (getD h (2 * m + i) 0)) parent)
-    right j a (no p) = other (3 * m + j) (omega arith) (λ d. p (omega arith)) ∙ old .right j (omega arith)
 
 -- of the two entries x and y below their product
 child : (b : Bool) (x y u : ℕ) → Inverse b (mulMod q x y) u → Inverse b x (mulMod q u y)
@@ -162,30 +156,56 @@ other-child : (b : Bool) (x y u : ℕ) → Inverse b (mulMod q x y) u → Invers
 other-child b x y u i = child b y x u (rw (mulMod-comm q y x) i)
 
 -- of the level below
-pub inverses-more : {t h s r : List ℕ} {k : ℕ} → k < 10 → Tree t h 0 → Inverses h s (2 ^ k) → Inverted (2 ^ k) (2 ^ k) h s r → Inverses h r (2 ^ (k + 1))
-inverses-more {t} {h} {s} {r} {k} below tree old new =
+inverses-more : {t h s : List ℕ} {k : ℕ} → k < 10 → length s ≡ 2 * n → Tree t h 0 → Inverses h s (2 ^ k) → Inverses h (invertedLevel (2 ^ k) h s) (2 ^ (k + 1))
+inverses-more {t} {h} {s} {k} small size tree old =
     subst (Inverses h r) (sym (level-next k)) (record { inverse = λ j l. by j l (decLt j m) })
   where
     m : ℕ
     m = 2 ^ k
 
+    r : List ℕ
+    r = invertedLevel m h s
+
+    fits : 4 * m ≤ length s
+    fits = omega (arith, level-small k small)
+
     b : Bool
     b = nonzero? (getD h 1 0)
 
-    parent : (j : ℕ) → j < m → Inverse b (mulMod q (getD h (2 * m + j) 0) (getD h (3 * m + j) 0)) (getD s (m + j) 0)
-    parent j l = subst (λ (x : ℕ). Inverse b x (getD s (m + j) 0)) (tree .product k (omega arith) below j l) (old .inverse j l)
+    parent : (j : ℕ) → j < m → Inverse b (productBelow m h j) (getD s (m + j) 0)
+    parent j l = subst (λ (x : ℕ). Inverse b x (getD s (m + j) 0)) (tree .product k (omega arith) small j l) (old .inverse j l)
 
     left : (j : ℕ) → j < m → Inverse b (getD h (2 * m + j) 0) (getD r (2 * m + j) 0)
-    left j l = subst (Inverse b (getD h (2 * m + j) 0)) (sym (new .left j l)) (child b _ _ (getD s (m + j) 0) (parent j l))
+    left j l = subst (Inverse b (getD h (2 * m + j) 0)) (sym (left-at m h s fits j l)) (child b _ _ (getD s (m + j) 0) (parent j l))
 
     right : (j : ℕ) → j < m → Inverse b (getD h (3 * m + j) 0) (getD r (3 * m + j) 0)
-    right j l = subst (Inverse b (getD h (3 * m + j) 0)) (sym (new .right j l)) (other-child b _ _ (getD s (m + j) 0) (parent j l))
+    right j l = subst (Inverse b (getD h (3 * m + j) 0)) (sym (right-at m h s fits j l)) (other-child b _ _ (getD s (m + j) 0) (parent j l))
 
     by : (j : ℕ) → j < 2 * m → Dec (j < m) → Inverse b (getD h (2 * m + j) 0) (getD r (2 * m + j) 0)
     by j l (yes a) = left j a
     by j l (no a) =
         let e : 3 * m + (j - m) ≡ 2 * m + j = omega arith in
         subst (λ (i : ℕ). Inverse b (getD h i 0) (getD r i 0)) e (right (j - m) (omega arith))
+
+abbrev pub Down : List ℕ → ℕ → List ℕ → List ℕ
+Down h k = invertedLevel (2 ^ k) h
+
+pub length-down : (k : ℕ) (h r : List ℕ) → k < 10 → length r ≡ 2 * n → length (Down h k r) ≡ 2 * n
+length-down k h r small size = length-inverted (2 ^ k) h r (omega (arith, level-small k small)) ∙ size
+
+length-top : (h : List ℕ) → length (invertedTop h) ≡ 2 * n
+unfolding invertedTop
+length-top h = ap (λ (k : ℕ). suc (suc k)) (sym (size-zeros (2 * n - 2)))
+
+-- after k levels
+inverses-levels : {t h : List ℕ} → Tree t h 0 → (k : ℕ) → k ≤ 10
+    → (length (layers (Down h) k (invertedTop h)) ≡ 2 * n) × Inverses h (layers (Down h) k (invertedTop h)) (2 ^ k)
+inverses-levels {t} {h} tree zero b = rw (layers-zero (Down h) (invertedTop h)) (length-top h, inverses-one h)
+inverses-levels {t} {h} tree (suc k) b =
+    let (old, inverses) = inverses-levels tree k (omega arith) in
+    let here : k + 1 ≡ suc k = add-one k in
+    rw (layers-suc (Down h) k (invertedTop h), ← here)
+    (length-down k h _ (omega arith) old, inverses-more (omega arith) old tree inverses)
 
 -- ---- the leaves' inverses are the reciprocals, or zeros where q divides a leaf
 
@@ -210,8 +230,16 @@ module _ (t h r : List ℕ) (size : length t ≡ n) (size-r : length r ≡ 2 * n
           ∙ ap (λ (x : ℕ). x % q) (zero-mul (getD r (n + i) 0)) in
           omega arith
 
-  pub reciprocals-are : drop n r ≡ reciprocalsOf t
+  leaves-inverses : drop n r ≡ reciprocalsOf t
   unfolding reciprocalsOf
-  reciprocals-are =
+  leaves-inverses =
       table-is n _ (drop n r) 0 (length-drop n r ∙ omega arith)
       (λ k l. getD-drop n r k 0 ∙ entry (hasZero t) (nonzero? (getD h 1 0)) refl refl k l)
+
+pub reciprocals-are : (t : List ℕ) → length t ≡ n → drop n (inversesOf (productsOf (leavesOf t))) ≡ reciprocalsOf t
+unfolding inversesOf
+reciprocals-are t size =
+    let h = productsOf (leavesOf t) in
+    let tree = products-tree t size in
+    let (size-r, inverses) = inverses-levels tree 10 (omega arith) in
+    leaves-inverses t h (layers (Down h) 10 (invertedTop h)) size size-r tree inverses

@@ -6,7 +6,8 @@ use Rattle.algebra.proofs.Negacyclic as N
 use Rattle.modq.proofs.Prime.{q-positive, negacyclic-root}
 use Rattle.ring.specs.Ring.{n, Invertible}
 
--- decided for every list, with the inverse as witness
+-- Decided for every list, with the inverse as witness. Crate algebra finds it by a transform; the type says all that counts: an inverse, or
+-- the proof that there is none. Law `inverse-unique` says that there is one inverse at most.
 pub invertible? : (b : List ℕ) → Dec (Invertible b)
 invertible? b = N.invertible? q-positive negacyclic-root b
 

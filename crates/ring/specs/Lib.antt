@@ -1,9 +1,8 @@
--- Definitions that the contracts cite. None of them knows a transform.
+-- Definitions that the contracts cite. A product is the plain sum over pairs. Only `invertible?` is made by a transform, and its type,
+-- `Dec (Invertible b)`, fixes the answer whatever way it is found.
 pub mod Ring
 pub mod Invertible
 pub mod Centred
 pub mod Reciprocals
--- what the private steps of `reciprocals` keep
+-- what the private steps of `reciprocals` make
 pub mod Tree
--- the worked examples of document 01
-pub mod Examples

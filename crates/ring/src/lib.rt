@@ -1,5 +1,10 @@
 // The ring of document 01: polynomials with coefficients modulo q = 59,393 and X^1024 = - 1, as arrays of 1,024 words by value.
 // Every word is taken as its residue modulo q, and the public functions are total. A result is built up from 1,024 zeros.
+use modq::Q;
+use modq::Q_I32;
+use ntt::DEGREE;
+use ntt::Element;
+use ntt::Spectrum;
 ghost use mathlib.Core.Path.{_≡_};
 ghost use Prim.Native.Nat.{_≤_};
 ghost use lib.ListN.{length, drop};
@@ -10,40 +15,40 @@ ghost use Rattle.ring.specs.Ring.{n, one, sum, difference, multiple, pro
 ghost use Rattle.ring.specs.Invertible.{invertible?, inverseOf};
 ghost use Rattle.ring.specs.Centred.{centred, residue, centredRemainder, remainderOf, remainders, near?, within?};
 ghost use Rattle.ring.specs.Reciprocals.{hasZero, reciprocalsOf};
-ghost use Rattle.ring.specs.Tree.{Multiplied, Tree, Inverted, Inverses};
+ghost use Rattle.ring.specs.Tree.{leavesOf, multipliedLevel, productsOf, invertedLevel, inversesOf};
 
 // ---- sums and multiples
 
-pub fn one() -> [u16; 1024]
+pub fn one() -> Element
     ensures { λ r. ⌜ r ≡ one ⌝ }
 {
-    let mut r = [0u16; 1024];
+    let mut r = [0u16; DEGREE];
     r[0] = 1;
     r
 }
 
-pub fn sum(a: [u16; 1024], b: [u16; 1024]) -> [u16; 1024]
+pub fn sum(a: Element, b: Element) -> Element
     ensures { λ r. ⌜ r ≡ sum a b ⌝ }
 {
-    let mut r = [0u16; 1024];
-    for k in 0..1024 {
+    let mut r = [0u16; DEGREE];
+    for k in 0..DEGREE {
         r[k] = modq::add(a[k], b[k]);
     }
     r
 }
 
-pub fn difference(a: [u16; 1024], b: [u16; 1024]) -> [u16; 1024]
+pub fn difference(a: Element, b: Element) -> Element
     ensures { λ r. ⌜ r ≡ difference a b ⌝ }
 {
-    let mut r = [0u16; 1024];
-    for k in 0..1024 {
+    let mut r = [0u16; DEGREE];
+    for k in 0..DEGREE {
         r[k] = modq::sub(a[k], b[k]);
     }
     r
 }
 
 // c × a.
-pub fn multiple(c: u16, a: [u16; 1024]) -> [u16; 1024]
+pub fn multiple(c: u16, a: Element) -> Element
     ensures { λ r. ⌜ r ≡ multiple c a ⌝ }
 {
     ntt::multiple(c, a)
@@ -55,9 +60,9 @@ pub fn multiple(c: u16, a: [u16; 1024]) -> [u16; 1024]
 pub fn centred(c: u16) -> i32
     ensures { λ r. ⌜ r ≡ centred c ⌝ }
 {
-    let y = c % 59393;
+    let y = c % Q;
     let z = y as i32;
-    if y <= 29696 { z } else { z - 59393 }
+    if y <= 29696 { z } else { z - Q_I32 }
 }
 
 // The remainder by 5 between - 2 and 2. That of the machine has the sign of m and is between - 4 and 4.
@@ -78,8 +83,8 @@ pub fn centred_remainder(m: i32) -> i32
 pub fn residue(m: i32) -> u16
     ensures { λ r. ⌜ r ≡ residue m ⌝ }
 {
-    let t = m % 59393;
-    if t < 0 { (t + 59393) as u16 } else { t as u16 }
+    let t = m % Q_I32;
+    if t < 0 { (t + Q_I32) as u16 } else { t as u16 }
 }
 
 fn remainder_of(c: u16) -> u16
@@ -89,11 +94,11 @@ fn remainder_of(c: u16) -> u16
 }
 
 // The remainder by 5 of every centred coefficient.
-pub fn remainders(m: [u16; 1024]) -> [u16; 1024]
+pub fn remainders(m: Element) -> Element
     ensures { λ r. ⌜ r ≡ remainders m ⌝ }
 {
-    let mut r = [0u16; 1024];
-    for k in 0..1024 {
+    let mut r = [0u16; DEGREE];
+    for k in 0..DEGREE {
         r[k] = remainder_of(m[k]);
     }
     r
@@ -109,16 +114,16 @@ fn is_near(x: u16, k: u16) -> bool
     if y <= k {
         return true;
     }
-    59393 - y <= k
+    Q - y <= k
 }
 
-// Whether every centred coefficient is between - k and k; with k = 1 document 01's short. It looks at all of them, so that its time
-// does not tell which one failed.
-pub fn is_within(a: [u16; 1024], k: u16) -> bool
+// Whether every centred coefficient is between - k and k; with k = 1 document 01's short. It looks at all of them. That no time
+// tells which one failed is so of the compiled code, which has no branch here, and not of this text: `is_near` returns early.
+pub fn is_within(a: Element, k: u16) -> bool
     ensures { λ r. ⌜ r ≡ within? k a ⌝ }
 {
     let mut all = true;
-    for i in 0..1024 {
+    for i in 0..DEGREE {
         if !is_near(a[i], k) {
             all = false;
         }
@@ -127,11 +132,11 @@ pub fn is_within(a: [u16; 1024], k: u16) -> bool
 }
 
 // Whether q divides some entry. It looks at all of them, as `is_within` does.
-pub fn has_zero(t: [u16; 1024]) -> bool
+pub fn has_zero(t: Spectrum) -> bool
     ensures { λ r. ⌜ r ≡ hasZero t ⌝ }
 {
     let mut any = false;
-    for j in 0..1024 {
+    for j in 0..DEGREE {
         if modq::reduce(t[j]) == 0 {
             any = true;
         }
@@ -141,23 +146,26 @@ pub fn has_zero(t: [u16; 1024]) -> bool
 
 // ---- many reciprocals for the price of one: a tree of products, the reciprocal of its top, and the way back down
 
+// The tree's entries: entry 0 is on no level.
+const TREE: usize = 2 * DEGREE;
+
 // Level m of the tree, for m = 1, 2, 4, .., 1,024, is the m entries from m on, and entry m + j stands above 2 m + j and 3 m + j. So a level is
 // made from its neighbour by a loop over entries in a row, and the compiler works on several at a time.
 
-// The entries as the lowest level.
-fn leaves(t: [u16; 1024]) -> [u16; 2048]
-    ensures { λ r. ⌜ drop n r ≡ t ⌝ }
+// The entries as the lowest level, under zeros.
+fn leaves(t: Spectrum) -> [u16; TREE]
+    ensures { λ r. ⌜ r ≡ leavesOf t ⌝ }
 {
-    let mut h = [0u16; 2048];
-    for i in 0..1024 {
-        h[1024 + i] = t[i];
+    let mut h = [0u16; TREE];
+    for i in 0..DEGREE {
+        h[DEGREE + i] = t[i];
     }
     h
 }
 
-fn multiply_level(h: &mut [u16; 2048], m: usize)
+fn multiply_level(h: &mut [u16; TREE], m: usize)
     requires { ⌜ (length (now h) ≡ 2048) × (m ≤ 512) ⌝ }
-    ensures { λ _. ⌜ Multiplied m m (now (h .entry)) (now (h .exit)) ⌝ }
+    ensures { λ _. ⌜ now (h .exit) ≡ multipliedLevel m (now (h .entry)) ⌝ }
 {
     for j in 0..m {
         let x = h[2 * m + j];
@@ -167,8 +175,8 @@ fn multiply_level(h: &mut [u16; 2048], m: usize)
 }
 
 // Each entry above the leaves is the product of the two below it.
-fn products(l: [u16; 2048]) -> [u16; 2048]
-    ensures { λ r. ⌜ Tree (drop n l) r 0 ⌝ }
+fn products(l: [u16; TREE]) -> [u16; TREE]
+    ensures { λ r. ⌜ r ≡ productsOf l ⌝ }
 {
     let mut h = l;
     for k in 0..10usize {
@@ -178,9 +186,9 @@ fn products(l: [u16; 2048]) -> [u16; 2048]
 }
 
 // An entry is x × y, so the reciprocal of x is that of the entry times y.
-fn invert_level(r: &mut [u16; 2048], h: &[u16; 2048], m: usize)
+fn invert_level(r: &mut [u16; TREE], h: &[u16; TREE], m: usize)
     requires { ⌜ (length (now r) ≡ 2048) × (m ≤ 512) ⌝ }
-    ensures { λ _. ⌜ Inverted m m (now (h .entry)) (now (r .entry)) (now (r .exit)) ⌝ }
+    ensures { λ _. ⌜ now (r .exit) ≡ invertedLevel m (now (h .entry)) (now (r .entry)) ⌝ }
 {
     for j in 0..m {
         let u = r[m + j];
@@ -192,11 +200,10 @@ fn invert_level(r: &mut [u16; 2048], h: &[u16; 2048], m: usize)
 }
 
 // The top's reciprocal is 0 where it has none, and then so are all.
-fn inverses(h: [u16; 2048]) -> [u16; 2048]
-    requires { ⌜ Tree (drop n h) h 0 ⌝ }
-    ensures { λ r. ⌜ Inverses h r n ⌝ }
+fn inverses(h: [u16; TREE]) -> [u16; TREE]
+    ensures { λ r. ⌜ r ≡ inversesOf h ⌝ }
 {
-    let mut r = [0u16; 2048];
+    let mut r = [0u16; TREE];
     r[1] = modq::reciprocal(h[1]);
     for k in 0..10usize {
         invert_level(&mut r, &h, 1 << k);
@@ -204,18 +211,18 @@ fn inverses(h: [u16; 2048]) -> [u16; 2048]
     r
 }
 
-fn lower_half(h: [u16; 2048]) -> [u16; 1024]
+fn lower_half(h: [u16; TREE]) -> Spectrum
     ensures { λ r. ⌜ r ≡ drop n h ⌝ }
 {
-    let mut r = [0u16; 1024];
-    for i in 0..1024 {
-        r[i] = h[1024 + i];
+    let mut r = [0u16; DEGREE];
+    for i in 0..DEGREE {
+        r[i] = h[DEGREE + i];
     }
     r
 }
 
 // The reciprocal of every entry; 1,024 zeros where q divides one of them, since the top of the tree is then 0.
-pub fn reciprocals(t: [u16; 1024]) -> [u16; 1024]
+pub fn reciprocals(t: Spectrum) -> Spectrum
     ensures { λ r. ⌜ r ≡ reciprocalsOf t ⌝ }
 {
     let h = products(leaves(t));
@@ -225,19 +232,14 @@ pub fn reciprocals(t: [u16; 1024]) -> [u16; 1024]
 // ---- products and inverses, by the transform. The tables of factors are lent, so that a caller makes them once.
 
 // The product of the two elements with the spectra x and y.
-pub fn product_of_spectra(x: [u16; 1024], y: [u16; 1024], backward: &[u16]) -> [u16; 1024]
+pub fn product_of_spectra(x: Spectrum, y: Spectrum, backward: &[u16]) -> Element
     requires { ⌜ now backward ≡ backwardFactors ⌝ }
     ensures { λ r. ⌜ r ≡ product (coefficientsOf x) (coefficientsOf y) ⌝ }
 {
     ntt::backward_product(x, y, backward)
 }
 
-pub fn product_with(
-    a: [u16; 1024],
-    b: [u16; 1024],
-    forward: &[u16],
-    backward: &[u16],
-) -> [u16; 1024]
+pub fn product_with(a: Element, b: Element, forward: &[u16], backward: &[u16]) -> Element
     requires { ⌜ (now forward ≡ forwardFactors) × (now backward ≡ backwardFactors) ⌝ }
     ensures { λ r. ⌜ r ≡ product a b ⌝ }
 {
@@ -246,7 +248,7 @@ pub fn product_with(
     ntt::backward_product(x, y, backward)
 }
 
-pub fn product(a: [u16; 1024], b: [u16; 1024]) -> [u16; 1024]
+pub fn product(a: Element, b: Element) -> Element
     ensures { λ r. ⌜ r ≡ product a b ⌝ }
 {
     let w = ntt::forward_factors();
@@ -257,10 +259,10 @@ pub fn product(a: [u16; 1024], b: [u16; 1024]) -> [u16; 1024]
 // Whether an element has an inverse, and the inverse; 1,024 zeros where it has none.
 pub struct Inversion {
     pub exists: bool,
-    pub value: [u16; 1024],
+    pub value: Element,
 }
 
-pub fn inverse_with(b: [u16; 1024], forward: &[u16], backward: &[u16]) -> Inversion
+pub fn inverse_with(b: Element, forward: &[u16], backward: &[u16]) -> Inversion
     requires { ⌜ (now forward ≡ forwardFactors) × (now backward ≡ backwardFactors) ⌝ }
     ensures { λ r. ⌜ (r .exists ≡ decide (invertible? b)) × (r .value ≡ inverseOf b) ⌝ }
 {
@@ -268,7 +270,7 @@ pub fn inverse_with(b: [u16; 1024], forward: &[u16], backward: &[u16]) -> Invers
     if has_zero(t) {
         return Inversion {
             exists: false,
-            value: [0u16; 1024],
+            value: [0u16; DEGREE],
         };
     }
     let u = ntt::backward(reciprocals(t), backward);
@@ -278,7 +280,7 @@ pub fn inverse_with(b: [u16; 1024], forward: &[u16], backward: &[u16]) -> Invers
     }
 }
 
-pub fn inverse(b: [u16; 1024]) -> Inversion
+pub fn inverse(b: Element) -> Inversion
     ensures { λ r. ⌜ (r .exists ≡ decide (invertible? b)) × (r .value ≡ inverseOf b) ⌝ }
 {
     let w = ntt::forward_factors();

@@ -11,7 +11,7 @@ use Rattle.ntt.proofs.Spectrum.{length-spectrum}
 use Rattle.ring.specs.Ring.{n, fifth, sum, difference, multiple, product}
 use Rattle.ring.proofs.RingLaws.{difference-element}
 use Rattle.ring.proofs.Transforms.{product-by-spectra, left-through, right-through}
-use Rattle.scheme.specs.Scheme.{Triple, Outcome, found, failed, keyNoise, masked, summed, core, decapsulation, recovered, recovers?, unmasked, ternary?, judged}
+use Rattle.scheme.specs.Scheme.{Triple, Outcome, found, failed, keyNoise, masked, summed, core, decapsulation, recovered, recovers?, withoutDummy, ternary?, judged}
 
 -- triples are known by their parts
 pub triple-same : {t u : Triple} → t .r ≡ u .r → t .e1 ≡ u .e1 → t .e2 ≡ u .e2 → t ≡ u
@@ -45,23 +45,23 @@ recovered-by-spectra i s2 e2 v w size ev ew =
     d = difference s2 e2
 
 -- the two tests
-judged-by : (dummy t : Triple) (x y : Bool) → recovers? t ≡ x → ternary? (unmasked dummy t) ≡ y
-    → judged dummy t ≡ provided x (provided y (found (unmasked dummy t)))
+judged-by : (dummy t : Triple) (x y : Bool) → recovers? t ≡ x → ternary? (withoutDummy dummy t) ≡ y
+    → judged dummy t ≡ provided x (provided y (found (withoutDummy dummy t)))
 unfolding Any.judged
-judged-by dummy t x y ex ey = ap₂ (λ (x y : Bool). provided x (provided y (found (unmasked dummy t)))) ex ey
+judged-by dummy t x y ex ey = ap₂ (λ (x y : Bool). provided x (provided y (found (withoutDummy dummy t)))) ex ey
 
-pub judged-found : (dummy t : Triple) → recovers? t && ternary? (unmasked dummy t) ≡ true → judged dummy t ≡ found (unmasked dummy t)
-judged-found dummy t h = by (recovers? t) (ternary? (unmasked dummy t)) refl refl h
+pub judged-found : (dummy t : Triple) → recovers? t && ternary? (withoutDummy dummy t) ≡ true → judged dummy t ≡ found (withoutDummy dummy t)
+judged-found dummy t h = by (recovers? t) (ternary? (withoutDummy dummy t)) refl refl h
   where
-    by : (x y : Bool) → recovers? t ≡ x → ternary? (unmasked dummy t) ≡ y → x && y ≡ true → judged dummy t ≡ found (unmasked dummy t)
+    by : (x y : Bool) → recovers? t ≡ x → ternary? (withoutDummy dummy t) ≡ y → x && y ≡ true → judged dummy t ≡ found (withoutDummy dummy t)
     by true true ex ey h = judged-by dummy t true true ex ey
     by true false ex ey h = absurd (false≢true h)
     by false y ex ey h = absurd (false≢true h)
 
-pub judged-failed : (dummy t : Triple) → recovers? t && ternary? (unmasked dummy t) ≡ false → judged dummy t ≡ failed
-judged-failed dummy t h = by (recovers? t) (ternary? (unmasked dummy t)) refl refl h
+pub judged-failed : (dummy t : Triple) → recovers? t && ternary? (withoutDummy dummy t) ≡ false → judged dummy t ≡ failed
+judged-failed dummy t h = by (recovers? t) (ternary? (withoutDummy dummy t)) refl refl h
   where
-    by : (x y : Bool) → recovers? t ≡ x → ternary? (unmasked dummy t) ≡ y → x && y ≡ false → judged dummy t ≡ failed
+    by : (x y : Bool) → recovers? t ≡ x → ternary? (withoutDummy dummy t) ≡ y → x && y ≡ false → judged dummy t ≡ failed
     by true true ex ey h = absurd (true≢false h)
     by true false ex ey h = judged-by dummy t true false ex ey
     by false y ex ey h = judged-by dummy t false y ex ey

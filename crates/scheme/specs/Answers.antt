@@ -13,7 +13,7 @@ use Rattle.scheme.specs.declared.KeyCheck.the-variants.{Sound, NotInvert
 use Rattle.scheme.specs.declared.Triple as Struct
 use Rattle.scheme.specs.declared.Encapsulation.{Encapsulation}
 use Rattle.scheme.specs.declared.Decapsulation.{Decapsulation}
-use Rattle.scheme.specs.declared.SecretKey.{SecretKey}
+use Rattle.scheme.specs.declared.PreparedKey.{PreparedKey}
 
 -- ---- the key check: no inverse first, then b ÷ 5 - a × s not ternary
 
@@ -36,7 +36,7 @@ answer (found t) = record { found = true; triple = record { r = t .r; e1 = t .e1
 answer failed = record { found = false; triple = record { r = zeros n; e1 = zeros n; e2 = zeros n } }
 
 -- decapsulation with a key that is given by its spectra
-abbrev pub opened : SecretKey → Struct.Triple → Encapsulation → Outcome
+abbrev pub opened : PreparedKey → Struct.Triple → Encapsulation → Outcome
 opened k dummy c =
     decapsulation (coefficientsOf (k .a)) (coefficientsOf (k .b)) (coefficientsOf (k .inverse))
     (coefficientsOf (k .s)) (tripleOf dummy) (c .c1) (c .c2)

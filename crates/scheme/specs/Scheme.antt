@@ -38,8 +38,8 @@ recovered a i s1 s2 e2 = Any.recovered setting a i s1 s2 e2
 abbrev pub recovers? : Triple → Bool
 recovers? t = Any.recovers? setting t
 
-abbrev pub unmasked : Triple → Triple → Triple
-unmasked dummy t = Any.unmasked setting dummy t
+abbrev pub withoutDummy : Triple → Triple → Triple
+withoutDummy dummy t = Any.withoutDummy setting dummy t
 
 abbrev pub ternary? : Triple → Bool
 ternary? t = Any.ternary? setting t

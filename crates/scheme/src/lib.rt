@@ -1,26 +1,29 @@
-// The scheme of document 01 on ring elements, as arrays of 1,024 words by value; a word stands for its residue modulo q.
-// A key is prepared once, and then holds spectra: the element with the spectrum v is `coefficientsOf v`. The tables of factors are lent.
+// The scheme of document 01 on ring elements, by value. A key is prepared once, and then holds spectra: the element with the spectrum v is
+// `coefficientsOf v`. The tables of factors are lent.
+use ntt::DEGREE;
+use ntt::Element;
+use ntt::Spectrum;
 ghost use mathlib.Core.Path.{_≡_};
 ghost use mathlib.Core.Bool.{decide};
 ghost use Rattle.ntt.specs.Spectrum.{spectrumOf, coefficientsOf};
 ghost use Rattle.ntt.specs.Factors.{forwardFactors, backwardFactors};
 ghost use Rattle.ring.specs.Ring.{product};
 ghost use Rattle.ring.specs.Invertible.{invertible?, inverseOf};
-ghost use Rattle.scheme.specs.Scheme.{keyElement, keyNoise, masked, summed, noisy, recovered, recovers?, unmasked, ternary?, judged, core, decapsulation};
+ghost use Rattle.scheme.specs.Scheme.{keyElement, keyNoise, masked, summed, noisy, recovered, recovers?, withoutDummy, ternary?, judged, core, decapsulation};
 ghost use Rattle.scheme.specs.Answers.{verdict, keyCheck, tripleOf, answer, opened};
 
 // ---- keys
 
 // The b of a new key, and whether it has an inverse.
 pub struct Generated {
-    pub b: [u16; 1024],
+    pub b: Element,
     pub invertible: bool,
 }
 
 // A public key prepared: the spectra of a and b, and whether b has an inverse.
-pub struct PublicKey {
-    pub a: [u16; 1024],
-    pub b: [u16; 1024],
+pub struct PreparedPublicKey {
+    pub a: Spectrum,
+    pub b: Spectrum,
     pub invertible: bool,
 }
 
@@ -31,23 +34,22 @@ pub enum KeyCheck {
     KeyMismatch,
 }
 
-// A secret key prepared: the spectra of a, b, s and of the inverse of b, and the key check.
-pub struct SecretKey {
-    pub a: [u16; 1024],
-    pub b: [u16; 1024],
-    pub s: [u16; 1024],
-    pub inverse: [u16; 1024],
+// A secret key prepared: the spectra of a, b, s and of the inverse of b.
+pub struct PreparedKey {
+    pub a: Spectrum,
+    pub b: Spectrum,
+    pub s: Spectrum,
+    pub inverse: Spectrum,
+}
+
+// What the key check says of a secret key, and the key prepared.
+pub struct CheckedKey {
+    pub key: PreparedKey,
     pub check: KeyCheck,
 }
 
 // Key generation from a, s and e. It tries once.
-pub fn generate(
-    a: [u16; 1024],
-    s: [u16; 1024],
-    e: [u16; 1024],
-    forward: &[u16],
-    backward: &[u16],
-) -> Generated
+pub fn generate(a: Element, s: Element, e: Element, forward: &[u16], backward: &[u16]) -> Generated
     requires { ⌜ (now forward ≡ forwardFactors) × (now backward ≡ backwardFactors) ⌝ }
     ensures { λ r. ⌜ (r .b ≡ keyElement a s e) × (r .invertible ≡ decide (invertible? (keyElement a s e))) ⌝ }
 {
@@ -59,14 +61,14 @@ pub fn generate(
     }
 }
 
-pub fn public_key(a: [u16; 1024], b: [u16; 1024], forward: &[u16]) -> PublicKey
+pub fn public_key(a: Element, b: Element, forward: &[u16]) -> PreparedPublicKey
     requires { ⌜ now forward ≡ forwardFactors ⌝ }
     ensures { λ r. ⌜ (r .a ≡ spectrumOf a) × (r .b ≡ spectrumOf b) × (r .invertible ≡ decide (invertible? b)) ⌝ }
 {
     let a_spectrum = ntt::forward(a, forward);
     let b_spectrum = ntt::forward(b, forward);
     let zero = ring::has_zero(b_spectrum);
-    PublicKey {
+    PreparedPublicKey {
         a: a_spectrum,
         b: b_spectrum,
         invertible: !zero,
@@ -74,7 +76,7 @@ pub fn public_key(a: [u16; 1024], b: [u16; 1024], forward: &[u16]) -> PublicKey
 }
 
 // b ÷ 5 - a × s, the e of a sound key, from the spectra of a and s; 35,636 is the reciprocal of 5.
-fn key_noise(a: [u16; 1024], b: [u16; 1024], s: [u16; 1024], backward: &[u16]) -> [u16; 1024]
+fn key_noise(a: Spectrum, b: Element, s: Spectrum, backward: &[u16]) -> Element
     requires { ⌜ now backward ≡ backwardFactors ⌝ }
     ensures { λ r. ⌜ r ≡ keyNoise (coefficientsOf a) b (coefficientsOf s) ⌝ }
 {
@@ -96,15 +98,16 @@ fn verdict(invertible: bool, ternary: bool) -> KeyCheck
 
 // The key check, beside the key's spectra.
 pub fn secret_key(
-    a: [u16; 1024],
-    b: [u16; 1024],
-    s: [u16; 1024],
+    a: Element,
+    b: Element,
+    s: Element,
     forward: &[u16],
     backward: &[u16],
-) -> SecretKey
+) -> CheckedKey
     requires { ⌜ (now forward ≡ forwardFactors) × (now backward ≡ backwardFactors) ⌝ }
-    ensures { λ r. ⌜ (r .a ≡ spectrumOf a) × (r .b ≡ spectrumOf b) × (r .s ≡ spectrumOf s) ⌝ }
-    ensures { λ r. ⌜ (r .inverse ≡ spectrumOf (inverseOf b)) × (r .check ≡ keyCheck a b s) ⌝ }
+    ensures { λ r. ⌜ r .check ≡ keyCheck a b s ⌝ }
+    ensures { λ r. ⌜ (r .key .a ≡ spectrumOf a) × (r .key .b ≡ spectrumOf b) × (r .key .s ≡ spectrumOf s) ⌝ }
+    ensures { λ r. ⌜ r .key .inverse ≡ spectrumOf (inverseOf b) ⌝ }
 {
     let a_spectrum = ntt::forward(a, forward);
     let b_spectrum = ntt::forward(b, forward);
@@ -112,11 +115,13 @@ pub fn secret_key(
     let zero = ring::has_zero(b_spectrum);
     let noise = key_noise(a_spectrum, b, s_spectrum, backward);
     let ternary = ring::is_within(noise, 1);
-    SecretKey {
-        a: a_spectrum,
-        b: b_spectrum,
-        s: s_spectrum,
-        inverse: ring::reciprocals(b_spectrum),
+    CheckedKey {
+        key: PreparedKey {
+            a: a_spectrum,
+            b: b_spectrum,
+            s: s_spectrum,
+            inverse: ring::reciprocals(b_spectrum),
+        },
         check: verdict(!zero, ternary),
     }
 }
@@ -124,20 +129,20 @@ pub fn secret_key(
 // ---- encapsulation
 
 pub struct Triple {
-    pub r: [u16; 1024],
-    pub e1: [u16; 1024],
-    pub e2: [u16; 1024],
+    pub r: Element,
+    pub e1: Element,
+    pub e2: Element,
 }
 
 pub struct Encapsulation {
-    pub c1: [u16; 1024],
-    pub c2: [u16; 1024],
+    pub c1: Element,
+    pub c2: Element,
 }
 
 // a × r + e1 and b × r + e2.
 pub fn encapsulate(
-    a: [u16; 1024],
-    b: [u16; 1024],
+    a: Spectrum,
+    b: Spectrum,
     t: Triple,
     forward: &[u16],
     backward: &[u16],
@@ -164,8 +169,8 @@ pub struct Decapsulation {
 
 // Step 1: the encapsulation of the dummy is added.
 pub fn add_dummy(
-    a: [u16; 1024],
-    b: [u16; 1024],
+    a: Spectrum,
+    b: Spectrum,
     dummy: Triple,
     c: Encapsulation,
     forward: &[u16],
@@ -186,12 +191,7 @@ pub fn add_dummy(
 }
 
 // The product of the first sum with s.
-pub fn times_secret(
-    s1: [u16; 1024],
-    s: [u16; 1024],
-    forward: &[u16],
-    backward: &[u16],
-) -> [u16; 1024]
+pub fn times_secret(s1: Element, s: Spectrum, forward: &[u16], backward: &[u16]) -> Element
     requires { ⌜ (now forward ≡ forwardFactors) × (now backward ≡ backwardFactors) ⌝ }
     ensures { λ r. ⌜ r ≡ product s1 (coefficientsOf s) ⌝ }
 {
@@ -199,7 +199,7 @@ pub fn times_secret(
 }
 
 // Step 2: m, from the product of the first sum with s.
-pub fn noisy(s2: [u16; 1024], s1s: [u16; 1024]) -> [u16; 1024]
+pub fn noisy(s2: Element, s1s: Element) -> Element
     ensures { λ m. ⌜ m ≡ noisy s2 s1s ⌝ }
 {
     ring::difference(s2, ring::multiple(5, s1s))
@@ -207,10 +207,10 @@ pub fn noisy(s2: [u16; 1024], s1s: [u16; 1024]) -> [u16; 1024]
 
 // Step 4: R, E1 and E2, from the sums and E2. The spectrum of R is a product, so R is not transformed again.
 pub fn recover(
-    a: [u16; 1024],
-    inverse: [u16; 1024],
+    a: Spectrum,
+    inverse: Spectrum,
     sums: Encapsulation,
-    e2: [u16; 1024],
+    e2: Element,
     forward: &[u16],
     backward: &[u16],
 ) -> Triple
@@ -240,8 +240,8 @@ pub fn recovers(t: Triple) -> bool
 }
 
 // Step 5: the dummy is subtracted.
-pub fn unmask(dummy: Triple, t: Triple) -> Triple
-    ensures { λ u. ⌜ tripleOf u ≡ unmasked (tripleOf dummy) (tripleOf t) ⌝ }
+pub fn subtract_dummy(dummy: Triple, t: Triple) -> Triple
+    ensures { λ u. ⌜ tripleOf u ≡ withoutDummy (tripleOf dummy) (tripleOf t) ⌝ }
 {
     let r = t.r;
     let e1 = t.e1;
@@ -274,7 +274,7 @@ pub fn judge(dummy: Triple, t: Triple) -> Decapsulation
     ensures { λ d. ⌜ d ≡ answer (judged (tripleOf dummy) (tripleOf t)) ⌝ }
 {
     let recovered = recovers(t);
-    let u = unmask(dummy, t);
+    let u = subtract_dummy(dummy, t);
     let ternary = is_ternary(u);
     if recovered & ternary {
         return Decapsulation {
@@ -285,20 +285,20 @@ pub fn judge(dummy: Triple, t: Triple) -> Decapsulation
     Decapsulation {
         found: false,
         triple: Triple {
-            r: [0u16; 1024],
-            e1: [0u16; 1024],
-            e2: [0u16; 1024],
+            r: [0u16; DEGREE],
+            e1: [0u16; DEGREE],
+            e2: [0u16; DEGREE],
         },
     }
 }
 
 // Steps 2 to 5, from the sums, the inverse of b and the product of the first sum with s.
 pub fn core(
-    a: [u16; 1024],
-    inverse: [u16; 1024],
+    a: Spectrum,
+    inverse: Spectrum,
     dummy: Triple,
     sums: Encapsulation,
-    s1s: [u16; 1024],
+    s1s: Element,
     forward: &[u16],
     backward: &[u16],
 ) -> Decapsulation
@@ -312,7 +312,7 @@ pub fn core(
 
 // Decapsulation with a dummy.
 pub fn decapsulate(
-    k: SecretKey,
+    k: PreparedKey,
     dummy: Triple,
     c: Encapsulation,
     forward: &[u16],

@@ -1,18 +1,19 @@
-use mathlib.Core.Path.{_≡_, refl, _∙_}
-use Prim.Native.Nat.{_*_, _-_, _^_, _≤_}
+use mathlib.Core.Path.{_≡_, refl, sym, ap, _∙_}
+use Prim.Native.Nat.{ℕ, _*_, _-_, _≤_}
 use native.Mathlib.Omega.{arith}
 use lib.ListN.{length}
 use borrow.Author.Needs.{needs}
-use Rattle.lists.specs.Table.{zeros}
+use Rattle.ntt.specs.Layers.{layers}
 use Rattle.ntt.proofs.Factors.{shifted}
+use Rattle.ntt.proofs.Layers.{layers-zero, layers-more}
 use Rattle.ring.specs.Ring.{n}
-use Rattle.ring.specs.Tree.{Inverses}
-use Rattle.ring.proofs.Trees.{level-small, inverses-one, inverses-more}
+use Rattle.ring.specs.Tree.{invertedTop, inversesOf}
+use Rattle.ring.proofs.Trees.{level-small, Down, length-down}
 use Rattle.ring.proofs.inverses.Statement.{statement}
 use Rattle.ring.proofs.inverses.Tie as tie
 
 abbrev Inv-loop : tie.InvT-loop
-Inv-loop h r₀ k₀ r k = (k ≤ 10) × (length r ≡ 2 * n) × Inverses h r (2 ^ k)
+Inv-loop h r₀ k₀ r k = (k ≤ 10) × (length r ≡ 2 * n) × (r ≡ layers (Down h) k (invertedTop h))
 
 abbrev μ-loop : tie.MeasureT-loop
 μ-loop h r₀ k₀ r k = 10 - k
@@ -27,7 +28,10 @@ array-write-r : tie.Need-array-write-r Inv-loop μ-loop
 array-write-r c = search needs
 
 loop-holds : tie.Need-loop-holds Inv-loop μ-loop
-loop-holds c = (search needs, refl, inverses-one (c .before .args .t1) (zeros (2 * n)) (c .reciprocal .result) (search needs) (c .reciprocal .ensures))
+unfolding invertedTop
+loop-holds c =
+    let h = c .before .args .t1 in
+    (search needs, refl, rw (layers-zero (Down h) (invertedTop h), c .reciprocal .ensures))
 
 shl-invert-level : tie.Need-shl-invert-level Inv-loop μ-loop
 shl-invert-level c = search needs
@@ -36,7 +40,7 @@ invert-level-requires : tie.Need-invert-level-requires Inv-loop μ-loop
 invert-level-requires c κs =
     let at = c .before .before .before in
     let below = c .before .before .loop-test .taken in
-    (at .loop .inv .1, rw (shifted (at .loop .k) below) (level-small below))
+    (at .loop .inv .1, rw (shifted (at .loop .k) below) (level-small (at .loop .k) below))
 
 add-k : tie.Need-add-k Inv-loop μ-loop
 add-k c = search needs
@@ -47,17 +51,20 @@ loop-less c = search needs
 loop-again : tie.Need-loop-again Inv-loop μ-loop
 loop-again c =
     let at = c .before .before .before .before in
+    let h = at .before .before .args .t1 in
     let below = c .before .before .before .loop-test .taken in
     let made = rw (shifted (at .loop .k) below) at (c .invert-level .ensures) in (
       search needs,
-      made .size ∙ at .loop .inv .1,
-      inverses-more below (at .before .before .pre) (at .loop .inv .2) made,
+      ap length made ∙ length-down (at .loop .k) _ _ below (at .loop .inv .1),
+      made ∙ ap (Down h (at .loop .k)) (at .loop .inv .2) ∙ sym (layers-more (Down h) (at .loop .k) _),
     )
 
 returns : tie.Need-returns Inv-loop μ-loop
+unfolding inversesOf
 returns c =
+    let h = c .before .before .before .args .t1 in
     let end : c .before .loop .k ≡ 10 = omega arith in
-    rw end at (c .before .loop .inv .2)
+    c .before .loop .inv .2 ∙ ap (λ (k : ℕ). layers (Down h) k (invertedTop h)) end
 
 pub inverses-spec : {M : Type 1} → statement M
 inverses-spec =

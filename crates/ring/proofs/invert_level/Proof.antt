@@ -1,20 +1,18 @@
-use mathlib.Core.Path.{_≡_}
-use Prim.Native.Nat.{_-_, _≤_}
+use Prim.Native.Nat.{_-_}
 use native.Mathlib.Omega.{arith}
 use borrow.Author.Needs.{needs}
-use Rattle.ring.specs.Tree.{Inverted}
-use Rattle.ring.proofs.Trees.{inverted-none, inverted-more}
+use Rattle.ring.proofs.Levels.{Inverted, inverted-none, inverted-more, inverted-all}
 use Rattle.ring.proofs.invert_level.Statement.{statement}
 use Rattle.ring.proofs.invert_level.Tie as tie
 
 abbrev Inv-loop : tie.InvT-loop
-Inv-loop r₀ h m j₀ r j = (j ≤ m) × Inverted m j h r₀ r
+Inv-loop r₀ h m j₀ r j = Inverted m h r₀ r j
 
 abbrev μ-loop : tie.MeasureT-loop
 μ-loop r₀ h m j₀ r j = m - j
 
 loop-holds : tie.Need-loop-holds Inv-loop μ-loop
-loop-holds c = (search needs, inverted-none _ _ _)
+loop-holds c = inverted-none _ _ _ (omega (arith, c .pre .0, c .pre .1))
 
 add-u : tie.Need-add-u Inv-loop μ-loop
 add-u c = search needs
@@ -89,14 +87,10 @@ loop-again : tie.Need-loop-again Inv-loop μ-loop
 loop-again c =
     let at = c .before .before .before .before .before .before in
     let taken = c .before .before .before .before .before .loop-test .taken in
-    let size = at .before .pre .0 in
-    (search needs, inverted-more taken (omega (arith, taken, size, at .before .pre .1)) (at .loop .inv .1) (c .before .mul .ensures) (c .mul2 .ensures))
+    inverted-more taken (at .loop .inv) (c .before .mul .ensures) (c .mul2 .ensures)
 
 returns : tie.Need-returns Inv-loop μ-loop
-returns c =
-    let at = c .before in
-    let end : at .loop .j ≡ at .before .args .m = omega (arith, at .loop .inv .0) in
-    rw end at (at .loop .inv .1)
+returns c = inverted-all (c .before .loop .inv) (c .loop-test .left)
 
 pub invert-level-spec : {M : Type 1} → statement M
 invert-level-spec =

@@ -1,20 +1,18 @@
-use mathlib.Core.Path.{_≡_}
-use Prim.Native.Nat.{_-_, _≤_}
+use Prim.Native.Nat.{_-_}
 use native.Mathlib.Omega.{arith}
 use borrow.Author.Needs.{needs}
-use Rattle.ring.specs.Tree.{Multiplied}
-use Rattle.ring.proofs.Trees.{multiplied-none, multiplied-more}
+use Rattle.ring.proofs.Levels.{Multiplied, multiplied-none, multiplied-more, multiplied-all}
 use Rattle.ring.proofs.multiply_level.Statement.{statement}
 use Rattle.ring.proofs.multiply_level.Tie as tie
 
 abbrev Inv-loop : tie.InvT-loop
-Inv-loop h₀ m j₀ h j = (j ≤ m) × Multiplied m j h₀ h
+Inv-loop h₀ m j₀ h j = Multiplied m h₀ h j
 
 abbrev μ-loop : tie.MeasureT-loop
 μ-loop h₀ m j₀ h j = m - j
 
 loop-holds : tie.Need-loop-holds Inv-loop μ-loop
-loop-holds c = (search needs, multiplied-none _ _)
+loop-holds c = multiplied-none _ _ (omega (arith, c .pre .0, c .pre .1))
 
 mul-x : tie.Need-mul-x Inv-loop μ-loop
 mul-x c = search needs
@@ -61,14 +59,10 @@ loop-less c = search needs
 loop-again : tie.Need-loop-again Inv-loop μ-loop
 loop-again c =
     let at = c .before .before .before .before in
-    let taken = c .before .before .before .loop-test .taken in
-    (search needs, multiplied-more taken (omega (arith, taken, at .before .pre .0, at .before .pre .1)) (at .loop .inv .1) (c .mul .ensures))
+    multiplied-more (c .before .before .before .loop-test .taken) (at .loop .inv) (c .mul .ensures)
 
 returns : tie.Need-returns Inv-loop μ-loop
-returns c =
-    let at = c .before in
-    let end : at .loop .j ≡ at .before .args .m = omega (arith, at .loop .inv .0) in
-    rw end at (at .loop .inv .1)
+returns c = multiplied-all (c .before .loop .inv) (c .loop-test .left)
 
 pub multiply-level-spec : {M : Type 1} → statement M
 multiply-level-spec =

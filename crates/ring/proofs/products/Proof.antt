@@ -1,23 +1,26 @@
-use mathlib.Core.Path.{_≡_, _∙_}
-use Prim.Native.Nat.{_+_, _*_, _-_, _<_, _≤_}
+use mathlib.Core.Path.{_≡_, refl, sym, ap, _∙_}
+use mathlib.Core.List.{List}
+use Prim.Native.Nat.{ℕ, _*_, _-_, _<_, _≤_}
 use native.Mathlib.Omega.{arith}
-use lib.ListN.{length, drop}
+use lib.ListN.{length}
 use borrow.Author.Needs.{needs}
+use Rattle.ntt.specs.Layers.{layers}
 use Rattle.ntt.proofs.Factors.{shifted}
+use Rattle.ntt.proofs.Layers.{layers-zero, layers-more}
 use Rattle.ring.specs.Ring.{n}
-use Rattle.ring.specs.Tree.{Tree}
-use Rattle.ring.proofs.Trees.{level-small, tree-none, tree-more}
+use Rattle.ring.specs.Tree.{productsOf}
+use Rattle.ring.proofs.Trees.{level-small, Up, length-up}
 use Rattle.ring.proofs.products.Statement.{statement}
 use Rattle.ring.proofs.products.Tie as tie
 
 abbrev Inv-loop : tie.InvT-loop
-Inv-loop h₀ k₀ h k = (k ≤ 10) × (length h ≡ 2 * n) × Tree (drop n h₀) h (10 - k)
+Inv-loop h₀ k₀ h k = (k ≤ 10) × (length h ≡ 2 * n) × (h ≡ layers Up k h₀)
 
 abbrev μ-loop : tie.MeasureT-loop
 μ-loop h₀ k₀ h k = 10 - k
 
 loop-holds : tie.Need-loop-holds Inv-loop μ-loop
-loop-holds c = (search needs, search needs, tree-none _)
+loop-holds c = (search needs, search needs, sym (layers-zero Up _))
 
 sub-multiply-level : tie.Need-sub-multiply-level Inv-loop μ-loop
 sub-multiply-level c = search needs
@@ -29,7 +32,7 @@ multiply-level-requires : tie.Need-multiply-level-requires Inv-loop μ-loop
 multiply-level-requires c κs =
     let at = c .before .before in
     let below : 9 - at .loop .k < 10 = omega arith in
-    (at .loop .inv .1, rw (shifted (9 - at .loop .k) below) (level-small below))
+    (at .loop .inv .1, rw (shifted (9 - at .loop .k) below) (level-small (9 - at .loop .k) below))
 
 add-k : tie.Need-add-k Inv-loop μ-loop
 add-k c = search needs
@@ -40,20 +43,18 @@ loop-less c = search needs
 loop-again : tie.Need-loop-again Inv-loop μ-loop
 loop-again c =
     let at = c .before .before .before in
-    let k = 9 - at .loop .k in
-    let below : k < 10 = omega arith in
-    let now : 10 - at .loop .k ≡ k + 1 = omega arith in
-    let next : 10 - (at .loop .k + 1) ≡ k = omega arith in
-    let made = rw (shifted k below) at (c .multiply-level .ensures) in (
+    let below : 9 - at .loop .k < 10 = omega arith in
+    let made = rw (shifted (9 - at .loop .k) below) at (c .multiply-level .ensures) in (
       search needs,
-      made .size ∙ at .loop .inv .1,
-      rw next (tree-more below (rw now at (at .loop .inv .2)) made),
+      ap length made ∙ length-up (at .loop .k) _ (at .loop .inv .1),
+      made ∙ ap (Up (at .loop .k)) (at .loop .inv .2) ∙ sym (layers-more Up (at .loop .k) _),
     )
 
 returns : tie.Need-returns Inv-loop μ-loop
+unfolding productsOf
 returns c =
-    let end : 10 - c .before .loop .k ≡ 0 = omega arith in
-    rw end at (c .before .loop .inv .2)
+    let end : c .before .loop .k ≡ 10 = omega arith in
+    c .before .loop .inv .2 ∙ ap (λ (k : ℕ). layers Up k (c .before .before .args .l)) end
 
 pub products-spec : {M : Type 1} → statement M
 products-spec =

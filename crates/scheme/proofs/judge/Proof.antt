@@ -1,6 +1,6 @@
 use mathlib.Core.Path.{_≡_, sym, ap, ap₂, _∙_}
 use mathlib.Core.Bool.{true, false, _&&_}
-use Rattle.scheme.specs.Scheme.{Triple, found, unmasked, recovers?, ternary?}
+use Rattle.scheme.specs.Scheme.{Triple, found, withoutDummy, recovers?, ternary?}
 use Rattle.scheme.specs.Answers.{tripleOf, answer}
 use Rattle.scheme.proofs.Steps.{judged-found, judged-failed}
 use borrow.Author.Needs.{needs}
@@ -10,8 +10,8 @@ use Rattle.scheme.proofs.judge.Tie as tie
 recovers-requires : tie.Need-recovers-requires
 recovers-requires c κs = search needs
 
-unmask-requires : tie.Need-unmask-requires
-unmask-requires c κs = search needs
+subtract-dummy-requires : tie.Need-subtract-dummy-requires
+subtract-dummy-requires c κs = search needs
 
 is-ternary-requires : tie.Need-is-ternary-requires
 is-ternary-requires c κs = search needs
@@ -20,7 +20,7 @@ returns : tie.Need-returns
 returns c =
     let at = c .before in
     let args = at .before .before .before .args in
-    let u = at .before .unmask .ensures in
+    let u = at .before .subtract-dummy .ensures in
     let tests = ap₂ _&&_ (at .before .before .recovers .ensures) (at .is-ternary .ensures ∙ ap ternary? u) in
     ap (λ (x : Triple). answer (found x)) u ∙ sym (ap answer (judged-found (tripleOf (args .dummy)) (tripleOf (args .t)) (sym tests ∙ c .if1 .taken)))
 
@@ -28,10 +28,10 @@ returns-2 : tie.Need-returns-2
 returns-2 c =
     let at = c .before in
     let args = at .before .before .before .args in
-    let u = at .before .unmask .ensures in
+    let u = at .before .subtract-dummy .ensures in
     let tests = ap₂ _&&_ (at .before .before .recovers .ensures) (at .is-ternary .ensures ∙ ap ternary? u) in
     sym (ap answer (judged-failed (tripleOf (args .dummy)) (tripleOf (args .t)) (sym tests ∙ c .if1 .left)))
 
 pub judge-spec : {M : Type 1} → statement M
 judge-spec =
-    tie.close (tie.spec recovers-requires unmask-requires is-ternary-requires returns returns-2)
+    tie.close (tie.spec recovers-requires subtract-dummy-requires is-ternary-requires returns returns-2)

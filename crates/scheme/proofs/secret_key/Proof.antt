@@ -55,11 +55,8 @@ returns c =
     let invertible = ap not (tested .before .before .has-zero .ensures ∙ ap hasZero b) ∙ zero-decides (args .b) hb in
     let noise = tested .before .key-noise .ensures
     ∙ ap₂ (λ (x y : List ℕ). keyNoise (coefficientsOf x) (args .b) (coefficientsOf y)) a s ∙ noise-through (args .a) (args .b) (args .s) ha hs in (
-      (a, b, s),
-      (
-        c .before .reciprocals .ensures ∙ ap reciprocalsOf b ∙ inverse-spectrum (args .b) hb,
-        c .verdict .ensures ∙ ap₂ verdict invertible (tested .is-within .ensures ∙ ap (within? 1) noise),
-      ),
+      c .verdict .ensures ∙ ap₂ verdict invertible (tested .is-within .ensures ∙ ap (within? 1) noise),
+      ((a, b, s), c .before .reciprocals .ensures ∙ ap reciprocalsOf b ∙ inverse-spectrum (args .b) hb),
     )
 
 pub secret-key-spec : {M : Type 1} → statement M

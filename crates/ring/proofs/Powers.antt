@@ -1,4 +1,4 @@
--- The worked examples hold.
+-- The product of two powers of X.
 use mathlib.Core.Path.{_≡_, refl, _∙_}
 use mathlib.Core.Bool.{cond}
 use mathlib.Core.List.{[], _∷_}
@@ -14,8 +14,6 @@ use Rattle.algebra.specs.Numbers.{subMod}
 use Rattle.algebra.proofs.PlainProduct.{product-monomial}
 use Rattle.modq.proofs.Prime.{q-positive}
 use Rattle.ring.specs.Ring.{q, n, constant, power, product}
-use Rattle.ring.specs.Centred.{centred, aroundZero, centredRemainder}
-use Rattle.ring.specs.Examples.{AllHold, examples}
 use Rattle.ring.proofs.RingLaws.{product-element}
 
 -- the coefficients of X^j
@@ -47,14 +45,3 @@ powers-wrap i j hi hj e = table-is n _ (product (power i) (power j)) 0 (product-
             → cond (leb i k) (getD (power j) (k - i) 0 % q) (subMod q 0 (getD (power j) (n + k - i) 0)) ≡ getD ((q - 1) ∷ []) k 0 % q
         by (yes l) = rw (le-leb i k l) (direct k l h)
         by (no l) = rw (lt-leb i k (omega arith)) (wrapped k (omega arith))
-
--- every example of the table
-pub examples-hold : AllHold examples
-unfolding centred aroundZero centredRemainder
-examples-hold = (
-  powers-wrap 1023 1 (omega arith) (omega arith) refl,
-  (
-    powers-wrap 512 512 (omega arith) (omega arith) refl,
-    (refl, (refl, (refl, (refl, (refl, (refl, tt)))))),
-  ),
-)
