@@ -3,18 +3,21 @@ use mathlib.Core.Path.{_≡_, ap, _∙_}
 use mathlib.Core.List.{List}
 use Prim.Native.Nat.{ℕ}
 use lib.ListN.{length}
-use Rattle.scheme.specs.Scheme.{masked}
+use Rattle.scheme.specs.Scheme.{Triple, masked}
 use Rattle.records.specs.declared.Answer.the-variants.{Done}
 use Rattle.records.specs.Answers.{number}
-use Rattle.derivation.specs.Triple.{tripleBytes}
-use Rattle.records.specs.Records.{firstOf, secondOf, c1Of, c2Of, rOf, e1Of, e2Of}
-use Rattle.calls.specs.Calls.{tripleOf, encapsulateAnswer, encapsulatedBytes, encapsulateOut, decapsulateAnswer, decapsulateOut}
-use Rattle.calls.specs.WellFormed.{WellFormedEncapsulation, WellFormedTriple}
+use Rattle.records.specs.Layout.{encapsulationLength, tripleLength}
+use Rattle.records.specs.Triple.{tripleBytes}
+use Rattle.records.specs.Records.{firstOf, secondOf, c1Of, c2Of}
+use Rattle.records.specs.Triple.{rOf, e1Of, e2Of}
+use Rattle.records.specs.Triple.{tripleOf}
+use Rattle.calls.specs.Calls.{encapsulateAnswer, encapsulatedWith, encapsulateOut, decapsulateAnswer, decapsulateOut}
+use Rattle.records.specs.WellFormed.{WellFormedEncapsulation, WellFormedTriple}
 use Rattle.calls.specs.Promises.{Accepted, PublicOf, Bytes}
-use Rattle.calls.proofs.AnswerLaws.{on-done}
-use Rattle.calls.proofs.RecordLaws.{triple-done}
-use Rattle.calls.proofs.WrittenRecords.{length-encapsulation, encapsulation-c1, encapsulation-c2}
-use Rattle.calls.proofs.WrittenTriples.{triple-bytes}
+use Rattle.records.proofs.AnswerLaws.{on-done}
+use Rattle.records.proofs.RecordLaws.{triple-done}
+use Rattle.records.proofs.WrittenRecords.{length-encapsulation, encapsulation-c1, encapsulation-c2}
+use Rattle.records.proofs.WrittenTriples.{triple-bytes}
 use Rattle.calls.proofs.WhenDone.{encapsulate-done}
 use Rattle.calls.proofs.Outcomes.{coded-ternary}
 use Rattle.calls.proofs.DecapsulateExact.{decapsulate-exact}
@@ -22,52 +25,52 @@ use Rattle.calls.proofs.Encapsulations.{masked-element, public-accepted
 
 -- ---- the parts of an encapsulation of the triple t
 
-module _ (p t : List ℕ) where
+module _ (a b : List ℕ) (t : Triple) where
   abbrev c1 : List ℕ
-  c1 = masked (firstOf p) (rOf t) (e1Of t)
+  c1 = masked a (t .r) (t .e1)
 
   abbrev c2 : List ℕ
-  c2 = masked (secondOf p) (rOf t) (e2Of t)
+  c2 = masked b (t .r) (t .e2)
 
-  pub encapsulated-c1 : c1Of (encapsulatedBytes p t) ≡ c1
-  unfolding encapsulatedBytes
+  pub encapsulated-c1 : c1Of (encapsulatedWith a b t) ≡ c1
+  unfolding encapsulatedWith
   encapsulated-c1 = encapsulation-c1 c1 c2 (masked-element _ _ _)
 
-  pub encapsulated-c2 : c2Of (encapsulatedBytes p t) ≡ c2
-  unfolding encapsulatedBytes
+  pub encapsulated-c2 : c2Of (encapsulatedWith a b t) ≡ c2
+  unfolding encapsulatedWith
   encapsulated-c2 = encapsulation-c2 c1 c2 (masked-element _ _ _)
 
-  encapsulated-size : length (encapsulatedBytes p t) ≡ 4096
-  unfolding encapsulatedBytes
+  encapsulated-size : length (encapsulatedWith a b t) ≡ encapsulationLength
+  unfolding encapsulatedWith
   encapsulated-size = length-encapsulation c1 c2
 
-  pub encapsulated-well-formed : WellFormedEncapsulation (encapsulatedBytes p t)
+  pub encapsulated-well-formed : WellFormedEncapsulation (encapsulatedWith a b t)
   encapsulated-well-formed = record {
     size = encapsulated-size;
-    c1-words = rw encapsulated-c1 (masked-element (firstOf p) (rOf t) (e1Of t));
-    c2-words = rw encapsulated-c2 (masked-element (secondOf p) (rOf t) (e2Of t));
+    c1-words = rw encapsulated-c1 (masked-element a (t .r) (t .e1));
+    c2-words = rw encapsulated-c2 (masked-element b (t .r) (t .e2));
   }
 
 -- ---- encapsulate, then decapsulate
 
 module _ (k p t : List ℕ) (accepted : Accepted k) (public : PublicOf p k) (wt : WellFormedTriple t) where
-  encapsulates-done : (room : ℕ) → room ≡ 4096 → encapsulateAnswer p t room ≡ Done
+  encapsulates-done : (room : ℕ) → room ≡ encapsulationLength → encapsulateAnswer p t room ≡ Done
   encapsulates-done room h =
       encapsulate-done p t room .1
       ((public .size, wt .size, h), (public-accepted public accepted, triple-done t .1 (wt .r-codes, wt .e1-codes, wt .e2-codes)))
 
-  encapsulate-writes : (c : List ℕ) → length c ≡ 4096 → encapsulateOut p t c ≡ encapsulatedBytes p t
+  encapsulate-writes : (c : List ℕ) → length c ≡ encapsulationLength → encapsulateOut p t c ≡ encapsulatedWith (firstOf p) (secondOf p) (tripleOf t)
   unfolding encapsulateOut
   encapsulate-writes c h = on-done _ c (encapsulates-done (length c) h)
 
-  opens : (dummy out : List ℕ) → WellFormedTriple dummy → length out ≡ 768
-      → (number (decapsulateAnswer k (encapsulatedBytes p t) dummy (length out)) ≡ 0)
-      × (decapsulateOut k (encapsulatedBytes p t) dummy out ≡ tripleBytes (rOf t) (e1Of t) (e2Of t))
+  opens : (dummy out : List ℕ) → WellFormedTriple dummy → length out ≡ tripleLength
+      → (number (decapsulateAnswer k (encapsulatedWith (firstOf p) (secondOf p) (tripleOf t)) dummy (length out)) ≡ 0)
+      × (decapsulateOut k (encapsulatedWith (firstOf p) (secondOf p) (tripleOf t)) dummy out ≡ tripleBytes (rOf t) (e1Of t) (e2Of t))
   opens dummy out wd room =
-      decapsulate-exact k (encapsulatedBytes p t) dummy out accepted (encapsulated-well-formed p t) wd room .opens (tripleOf t) (coded-ternary t) .0
-      (encapsulates public (tripleOf t) (coded-ternary t) (encapsulated-c1 p t) (encapsulated-c2 p t))
+      decapsulate-exact k (encapsulatedWith (firstOf p) (secondOf p) (tripleOf t)) dummy out accepted (encapsulated-well-formed (firstOf p) (secondOf p) (tripleOf t)) wd room .0 .opens (tripleOf t) (coded-ternary t) .0
+      (encapsulates public (tripleOf t) (coded-ternary t) (encapsulated-c1 (firstOf p) (secondOf p) (tripleOf t)) (encapsulated-c2 (firstOf p) (secondOf p) (tripleOf t)))
 
-  pub encapsulate-then-decapsulate : (c dummy out : List ℕ) → Bytes t → length c ≡ 4096 → WellFormedTriple dummy → length out ≡ 768
+  pub encapsulate-then-decapsulate : (c dummy out : List ℕ) → Bytes t → length c ≡ encapsulationLength → WellFormedTriple dummy → length out ≡ tripleLength
       → (number (encapsulateAnswer p t (length c)) ≡ 0)
       × (number (decapsulateAnswer k (encapsulateOut p t c) dummy (length out)) ≡ 0)
       × (decapsulateOut k (encapsulateOut p t c) dummy out ≡ t)

@@ -7,14 +7,16 @@ use Rattle.ring.specs.Ring.{Invertible}
 use Rattle.records.specs.declared.Answer.the-variants.{Done}
 use Rattle.records.specs.Answers.{number}
 use Rattle.records.specs.Records.{secondOf}
-use Rattle.calls.specs.Calls.{secretAnswer, checkAnswer}
-use Rattle.calls.specs.WellFormed.{WellFormedKey}
-use Rattle.calls.specs.Promises.{Accepted, Matches, CheckExact}
-use Rattle.calls.proofs.AnswerLaws.{number-done}
-use Rattle.calls.proofs.Keys.{secret-done}
+use Rattle.keys.specs.Keys.{secretAnswer}
+use Rattle.calls.specs.Calls.{checkAnswer}
+use Rattle.records.specs.WellFormed.{WellFormedKey}
+use Rattle.calls.specs.Promises.{Accepted, CheckExact}
+use Rattle.keys.specs.Keys.{elementsOf, Matches}
+use Rattle.records.proofs.AnswerLaws.{number-done}
+use Rattle.keys.proofs.KeyLaws.{secret-done}
 use Rattle.calls.proofs.WhenDone.{check-done}
 
-pub accepted-iff : (k : List ℕ) → Accepted k ↔ (WellFormedKey k × Invertible (secondOf k) × Matches k)
+pub accepted-iff : (k : List ℕ) → Accepted k ↔ (WellFormedKey k × Invertible (secondOf k) × Matches (elementsOf k))
 accepted-iff k =
     Iff·trans
     (Iff·trans (number-done (checkAnswer k)) (Iff·trans (check-done k) (Iff·and Iff·rfl (secret-done k)))) (

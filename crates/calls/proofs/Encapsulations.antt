@@ -8,9 +8,9 @@ use Rattle.scheme.specs.Scheme.{Triple, setting, masked}
 use Rattle.scheme.proofs.Givens.{givens}
 use Rattle.records.specs.declared.Answer.the-variants.{Done}
 use Rattle.records.specs.Records.{firstOf, secondOf}
-use Rattle.calls.specs.Calls.{publicAnswer}
+use Rattle.keys.specs.Keys.{publicAnswer}
 use Rattle.calls.specs.Promises.{Accepted, Ternaries, Encapsulates, PublicOf}
-use Rattle.calls.proofs.Keys.{public-done}
+use Rattle.keys.proofs.KeyLaws.{public-done}
 use Rattle.calls.proofs.CheckExact.{accepted-iff}
 
 pub masked-element : (a r e : List ℕ) → Element (masked a r e)
@@ -23,8 +23,8 @@ module _ {p k : List ℕ} (public : PublicOf p k) where
       let (w, unit, matches) = accepted-iff k .0 accepted in
       public-done p .1 (
         record {
-          mark = public .mark;
-          version = public .version;
+          has-mark = public .mark;
+          has-version = public .version;
           first-words = rw (public .same-a) (w .front .first-words);
           second-words = rw (public .same-b) (w .front .second-words);
         },
@@ -33,7 +33,7 @@ module _ {p k : List ℕ} (public : PublicOf p k) where
 
   -- the formula with the public record's a and b is that with the key's
   pub encapsulates : {c1 c2 : List ℕ} (t : Triple) → Ternaries t → c1 ≡ masked (firstOf p) (t .r) (t .e1) → c2 ≡ masked (secondOf p) (t .r) (t .e2)
-      → Encapsulates k c1 c2 t
+      → Encapsulates (firstOf k) (secondOf k) c1 c2 t
   encapsulates t ternary e1 e2 = (
     ternary,
     record {

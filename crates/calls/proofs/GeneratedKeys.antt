@@ -3,6 +3,7 @@ use mathlib.Core.Path.{_≡_, refl, sym, ap, _∙_}
 use mathlib.Core.List.{List, [], _++_, append-nil}
 use Prim.Native.Nat.{ℕ}
 use lib.ListN.{length}
+use native.Mathlib.Omega.{arith}
 use Rattle.exactness.proofs.Elements.{keyElement-element}
 use Rattle.ring.specs.Ring.{Element, Invertible}
 use Rattle.scheme.specs.Scheme.{setting}
@@ -17,12 +18,15 @@ use Rattle.sampling.proofs.Streams.{uniform-element}
 use Rattle.records.specs.declared.Answer.the-variants.{Done}
 use Rattle.records.specs.Answers.{number}
 use Rattle.records.specs.Records.{firstOf, secondOf, codesPart, secretOf, recordBytes}
-use Rattle.calls.specs.Calls.{publicAnswer, keygenB, keygenAnswer, publicKeyBytes, secretKeyBytes, keygenPublic, keygenSecret}
-use Rattle.calls.specs.WellFormed.{WellFormedFront, WellFormedKey}
-use Rattle.calls.specs.Promises.{Accepted, Matches, PublicOf}
-use Rattle.calls.proofs.AnswerLaws.{number-done, on-done}
+use Rattle.keys.specs.Keys.{publicAnswer, keygenB}
+use Rattle.calls.specs.Calls.{keygenAnswer, newPublicKey, newSecretKey, keygenPublic, keygenSecret}
+use Rattle.records.specs.WellFormed.{WellFormedFront, WellFormedKey}
+use Rattle.calls.specs.Promises.{Accepted, PublicOf}
+use Rattle.keys.specs.Keys.{elementsOf, Matches}
+use Rattle.records.proofs.AnswerLaws.{number-done, on-done}
+use Rattle.records.specs.Layout.{publicKeyMark, secretKeyMark}
 use Rattle.records.proofs.Writing.{length-recordBytes}
-use Rattle.calls.proofs.WrittenRecords.{length-both, part-end, record-first, record-second, record-well-formed}
+use Rattle.records.proofs.WrittenRecords.{length-both, part-end, record-first, record-second, record-well-formed}
 use Rattle.calls.proofs.WhenDone.{keygen-done}
 use Rattle.calls.proofs.CheckExact.{accepted-iff}
 use Rattle.calls.proofs.Encapsulations.{public-accepted}
@@ -47,33 +51,33 @@ module _ (stream s e : List ℕ) where
   -- ---- the parts of the secret key
 
   abbrev k : List ℕ
-  k = secretKeyBytes stream s e
+  k = newSecretKey stream s e
 
   secret-first : firstOf k ≡ a
-  unfolding secretKeyBytes
-  secret-first = record-first 83 68 75 a b codes a-element
+  unfolding newSecretKey
+  secret-first = record-first secretKeyMark 1 a b codes a-element
 
   secret-second : secondOf k ≡ b
-  unfolding secretKeyBytes
-  secret-second = record-second 83 68 75 a b codes b-element
+  unfolding newSecretKey
+  secret-second = record-second secretKeyMark 1 a b codes b-element
 
   secret-codes : codesPart k ≡ codes
-  unfolding secretKeyBytes
-  secret-codes = part-end (recordBytes 83 68 75 a b) codes (length-recordBytes 83 68 75 a b) (length-ternaryBytes (ternaryNoise s))
+  unfolding newSecretKey
+  secret-codes = part-end (recordBytes secretKeyMark 1 a b) codes (length-recordBytes secretKeyMark 1 a b) (length-ternaryBytes (ternaryNoise s))
 
-  secret-front : WellFormedFront 83 68 75 k
-  unfolding secretKeyBytes
-  secret-front = record-well-formed 83 68 75 a b codes a-element b-element
+  secret-front : WellFormedFront secretKeyMark 1 k
+  unfolding newSecretKey
+  secret-front = record-well-formed secretKeyMark 1 a b codes (omega arith) a-element b-element
 
   secret-size : length k ≡ 4357
-  unfolding secretKeyBytes
-  secret-size = length-both (recordBytes 83 68 75 a b) codes (length-recordBytes 83 68 75 a b) (length-ternaryBytes (ternaryNoise s))
+  unfolding newSecretKey
+  secret-size = length-both (recordBytes secretKeyMark 1 a b) codes (length-recordBytes secretKeyMark 1 a b) (length-ternaryBytes (ternaryNoise s))
 
   secret-well-formed : WellFormedKey k
   secret-well-formed = record { size = secret-size; front = secret-front; codes = rw secret-codes (ternaryBytes-valid (ternaryNoise s)) }
 
   -- b = 5 (a × s + e), by the e of the noise
-  secret-matches : Matches k
+  secret-matches : Matches (elementsOf k)
   unfolding keygenB
   secret-matches =
       let is-s : secretOf k ≡ ternaryNoise s = ap ternaryOf secret-codes ∙ ternaryOf-bytes (ternaryNoise s) (ternaryNoise-ternary s) in
@@ -85,23 +89,23 @@ module _ (stream s e : List ℕ) where
   -- ---- the parts of the public key
 
   abbrev p : List ℕ
-  p = publicKeyBytes stream s e
+  p = newPublicKey stream s e
 
-  behind-front : p ≡ recordBytes 80 68 75 a b ++ []
-  unfolding publicKeyBytes
-  behind-front = sym (append-nil (recordBytes 80 68 75 a b))
+  behind-front : p ≡ recordBytes publicKeyMark 1 a b ++ []
+  unfolding newPublicKey
+  behind-front = sym (append-nil (recordBytes publicKeyMark 1 a b))
 
   public-size : length p ≡ 4101
-  unfolding publicKeyBytes
-  public-size = length-recordBytes 80 68 75 a b
+  unfolding newPublicKey
+  public-size = length-recordBytes publicKeyMark 1 a b
 
   public-of : PublicOf p k
   public-of = record {
     size = public-size;
-    mark = rw behind-front (record-well-formed 80 68 75 a b [] a-element b-element .mark);
-    version = rw behind-front (record-well-formed 80 68 75 a b [] a-element b-element .version);
-    same-a = ap firstOf behind-front ∙ record-first 80 68 75 a b [] a-element ∙ sym secret-first;
-    same-b = ap secondOf behind-front ∙ record-second 80 68 75 a b [] b-element ∙ sym secret-second;
+    mark = rw behind-front (record-well-formed publicKeyMark 1 a b [] (omega arith) a-element b-element .has-mark);
+    version = rw behind-front (record-well-formed publicKeyMark 1 a b [] (omega arith) a-element b-element .has-version);
+    same-a = ap firstOf behind-front ∙ record-first publicKeyMark 1 a b [] a-element ∙ sym secret-first;
+    same-b = ap secondOf behind-front ∙ record-second publicKeyMark 1 a b [] b-element ∙ sym secret-second;
   }
 
   -- ---- under 0

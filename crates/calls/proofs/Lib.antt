@@ -1,17 +1,12 @@
--- Laws of answers and records.
-pub mod AnswerLaws
-pub mod RecordLaws
-pub mod WrittenRecords
-pub mod WrittenTriples
--- When keys and calls say Done.
+-- When calls say Done.
 pub mod Lengths
-pub mod Keys
 pub mod WhenDone
 -- Demand 3 over bytes.
 pub mod CheckExact
 pub mod Outcomes
 pub mod DecapsulateExact
 pub mod OpenExact
+pub mod Promised
 -- When 6 is said, and what refusals leave.
 pub mod NotInvertible
 pub mod Untouched

@@ -14,14 +14,17 @@ use Rattle.records.specs.declared.Refusal.the-variants.{WrongLength, TagMismatc
 use Rattle.records.specs.declared.Answer.{Answer}
 use Rattle.records.specs.Answers.{number, unless, andThen}
 use Rattle.records.specs.Records.{firstOf, secondOf, codesPart, bodyPart, tagPart, c1Of, c2Of}
-use Rattle.calls.specs.Calls.{publicAnswer, secretAnswer, checkAnswer, keygenAnswer, tripleOf, noiseTriple, outcome, outcomeAnswer, openedAnswer}
+use Rattle.keys.specs.Keys.{elementsOf, publicAnswer, secretAnswer, noiseTriple}
+use Rattle.calls.specs.Calls.{checkAnswer, keygenAnswer, outcome, outcomeAnswer, openedAnswer}
+use Rattle.records.specs.Layout.{sealedEntryMark, secretKeyMark}
+use Rattle.records.specs.Triple.{tripleOf}
 use Rattle.calls.specs.Calls.{encapsulateAnswer, decapsulateAnswer, sealAnswer, openAnswer}
-use Rattle.calls.specs.WellFormed.{WellFormedFront, WellFormedKey}
+use Rattle.records.specs.WellFormed.{WellFormedFront, WellFormedKey}
 use Rattle.calls.specs.Promises.{NotInvertibleExact}
-use Rattle.calls.proofs.AnswerLaws.{Never, unless-never, done-never, then-never, unless-says, then-refuses}
-use Rattle.calls.proofs.RecordLaws.{record-never, encapsulation-never, triple-never}
+use Rattle.records.proofs.AnswerLaws.{Never, unless-never, done-never, then-never, unless-says, then-refuses}
+use Rattle.records.proofs.RecordLaws.{record-never, encapsulation-never, triple-never}
 use Rattle.calls.proofs.Lengths.{one-fits, keygen-fits, encapsulate-fits, decapsulate-fits, seal-fits, open-fits}
-use Rattle.calls.proofs.Keys.{generated-refused, public-refused, secret-refused}
+use Rattle.keys.proofs.KeyLaws.{generated-refused, public-refused, secret-refused}
 
 -- ---- what stands before and behind the check of a key
 
@@ -46,7 +49,7 @@ by-key key h g = Iff·trans (then-refuses key (omega arith) h) g
 -- the two openings: a secret key and three further lengths
 opening : (k : List ℕ) {i i′ j j′ l l′ : ℕ}
     → (((length k ≡ 4357) × (i ≡ i′) × (j ≡ j′) × (l ≡ l′))
-    × (WellFormedFront 83 68 75 k × (firstInvalidCode (codesPart k) ≡ 1024) × ¬ (Invertible (secondOf k))))
+    × (WellFormedFront secretKeyMark 1 k × (firstInvalidCode (codesPart k) ≡ 1024) × ¬ (Invertible (secondOf k))))
     ↔ (WellFormedKey k × (i ≡ i′) × (j ≡ j′) × (l ≡ l′) × ¬ (Invertible (secondOf k)))
 opening k = (
   λ ((size, h1, h2, h3), (front, codes, none)). (record { size = size; front = front; codes = codes }, h1, h2, h3, none),
@@ -82,7 +85,7 @@ not-invertible-exact = record {
       (six-after-lengths _ (decapsulate-fits k c d room)
       (by-key (secretAnswer k)
       (then-never (encapsulation-never (omega arith) c)
-      (then-never (triple-never (omega arith) d) (outcome-never (outcome k (tripleOf d) (c1Of c) (c2Of c)))))
+      (then-never (triple-never (omega arith) d) (outcome-never (outcome (elementsOf k) (tripleOf d) (c1Of c) (c2Of c)))))
       (secret-refused k)))
       (opening k);
   seal = λ k noise entry room.
@@ -94,8 +97,8 @@ not-invertible-exact = record {
       Iff·trans
       (six-after-lengths _ (open-fits k e noise room)
       (by-key (secretAnswer k)
-      (then-never (record-never (omega arith) 80 76 71 e)
-      (opened-never (outcome k (noiseTriple noise) (firstOf e) (secondOf e)) (bodyPart e) (tagPart e)))
+      (then-never (record-never (omega arith) sealedEntryMark 1 e)
+      (opened-never (outcome (elementsOf k) (noiseTriple noise) (firstOf e) (secondOf e)) (bodyPart e) (tagPart e)))
       (secret-refused k)))
       (opening k);
 }

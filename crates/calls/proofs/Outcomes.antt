@@ -1,5 +1,5 @@
--- What decapsulation by an accepted key finds, and what both openings say of it.
-use mathlib.Core.Path.{_≡_, refl, ap}
+-- What decapsulation by a sound key finds, and what both openings say of it.
+use mathlib.Core.Path.{_≡_, refl, sym, ap}
 use mathlib.Core.Bool.{Bool, true, false, not-eq-not}
 use mathlib.Core.Logic.{_↔_, _⊎_, inl, inr}
 use mathlib.Core.List.{List}
@@ -9,7 +9,8 @@ use Rattle.exactness.specs.Promises.{Exact}
 use Rattle.ring.specs.Ring.{Element}
 use Rattle.ring.specs.Invertible.{inverseOf}
 use Rattle.scheme.specs.Scheme.{Triple, Outcome, found, failed, setting}
-use Rattle.scheme.proofs.Exactness.{exact-by-inverse, found-ternary}
+use Rattle.exactness.specs.Scheme.{SoundKey}
+use Rattle.scheme.proofs.Exactness.{exact, sound-key, found-ternary}
 use Rattle.encoding.proofs.Codes.{ternaryOf-ternary}
 use Rattle.sampling.proofs.NoiseLaws.{ternaryNoise-ternary}
 use Rattle.derivation.specs.Derivation.{tagOf, genuine?}
@@ -17,9 +18,11 @@ use Rattle.records.specs.declared.Refusal.the-variants.{TagMismatch}
 use Rattle.records.specs.declared.Answer.the-variants.{Done}
 use Rattle.records.specs.Answers.{number, unless}
 use Rattle.records.specs.Records.{firstOf, secondOf, secretOf}
-use Rattle.calls.specs.Calls.{tripleOf, noiseTriple, outcome, outcomeAnswer, openedAnswer}
+use Rattle.records.specs.Triple.{tripleOf}
+use Rattle.keys.specs.Keys.{KeyElements, elementsOf, noiseTriple}
+use Rattle.calls.specs.Calls.{outcome, outcomeAnswer, openedAnswer}
 use Rattle.calls.specs.Promises.{Accepted, Ternaries}
-use Rattle.calls.proofs.AnswerLaws.{unless-refuses}
+use Rattle.records.proofs.AnswerLaws.{unless-refuses}
 use Rattle.derivation.proofs.Laws.{genuine-iff}
 use Rattle.calls.proofs.CheckExact.{accepted-iff}
 
@@ -31,18 +34,29 @@ coded-ternary d = record { r-ternary = ternaryOf-ternary _; e1-ternary = ternary
 pub noise-ternary : (noise : List ℕ) → Ternaries (noiseTriple noise)
 noise-ternary noise = record { r-ternary = ternaryNoise-ternary _; e1-ternary = ternaryNoise-ternary _; e2-ternary = ternaryNoise-ternary _ }
 
--- ---- exactness of the outcome, for an accepted key
+-- ---- exactness of the outcome, for a sound key
 
-pub outcome-exact : (k c1 c2 : List ℕ) (dummy : Triple) → Accepted k → Element c1 → Element c2 → Ternaries dummy
-    → Exact setting (firstOf k) (secondOf k) (inverseOf (secondOf k)) (secretOf k) c1 c2 dummy
-outcome-exact k c1 c2 dummy accepted =
+-- with the inverse of b
+abbrev pub Sound : KeyElements → Type 0
+Sound key = SoundKey setting (key .a) (key .b) (inverseOf (key .b)) (key .s)
+
+pub accepted-sound : (k : List ℕ) → Accepted k → Sound (elementsOf k)
+accepted-sound k accepted =
     let (w, unit, matches) = accepted-iff k .0 accepted in
-    exact-by-inverse (firstOf k) (secondOf k) (secretOf k) c1 c2 dummy (w .front .first-words) (w .front .second-words) (ternaryOf-ternary _)
-    unit matches
+    sound-key (firstOf k) (secondOf k) (secretOf k) (w .front .first-words) (w .front .second-words) (ternaryOf-ternary _) unit matches
 
-pub outcome-ternary : (k c1 c2 : List ℕ) (dummy t : Triple) → outcome k dummy c1 c2 ≡ found t → Ternaries t
-unfolding outcome
-outcome-ternary k c1 c2 dummy t e = found-ternary (firstOf k) (secondOf k) (inverseOf (secondOf k)) (secretOf k) dummy c1 c2 t e
+module _ (key : KeyElements) (c1 c2 : List ℕ) (dummy : Triple) where
+  pub outcome-exact : Sound key → Element c1 → Element c2 → Ternaries dummy → Exact setting (key .a) (key .b) (inverseOf (key .b)) (key .s) c1 c2 dummy
+  outcome-exact = exact (key .a) (key .b) (inverseOf (key .b)) (key .s) c1 c2 dummy
+
+  -- under another dummy it is the same
+  pub outcome-free : Sound key → Element c1 → Element c2 → Ternaries dummy → (other : Triple) → Ternaries other → outcome key other c1 c2 ≡ outcome key dummy c1 c2
+  unfolding outcome
+  outcome-free sound h1 h2 h other ho = sym (outcome-exact sound h1 h2 h .dummy-free other ho)
+
+  pub outcome-ternary : (t : Triple) → outcome key dummy c1 c2 ≡ found t → Ternaries t
+  unfolding outcome
+  outcome-ternary t e = found-ternary (key .a) (key .b) (inverseOf (key .b)) (key .s) dummy c1 c2 t e
 
 -- ---- 0 and 9 of bare opening
 

@@ -11,12 +11,16 @@ use Rattle.records.specs.declared.Refusal.the-variants.{WrongLength}
 use Rattle.records.specs.declared.Answer.{Answer}
 use Rattle.records.specs.declared.Answer.the-variants.{Done}
 use Rattle.records.specs.Answers.{unless}
-use Rattle.records.specs.Records.{firstOf, secondOf, bodyPart, tagPart, recordAnswer, c1Of, c2Of, encapsulationAnswer, tripleAnswer}
-use Rattle.calls.specs.Calls.{publicAnswer, secretAnswer, checkAnswer, keygenB, keygenAnswer, tripleOf, noiseTriple, outcome, outcomeAnswer, openedAnswer}
+use Rattle.records.specs.Records.{firstOf, secondOf, bodyPart, tagPart, recordAnswer, c1Of, c2Of, encapsulationAnswer}
+use Rattle.records.specs.Triple.{tripleAnswer}
+use Rattle.keys.specs.Keys.{elementsOf, publicAnswer, secretAnswer, keygenB, noiseTriple}
+use Rattle.calls.specs.Calls.{checkAnswer, keygenAnswer, outcome, outcomeAnswer, openedAnswer}
+use Rattle.records.specs.Layout.{sealedEntryMark}
+use Rattle.records.specs.Triple.{tripleOf}
 use Rattle.calls.specs.Calls.{encapsulateAnswer, decapsulateAnswer, sealAnswer, openAnswer}
-use Rattle.calls.proofs.AnswerLaws.{unless-done, then-done}
+use Rattle.records.proofs.AnswerLaws.{unless-done, then-done}
 use Rattle.calls.proofs.Lengths.{one-fits, keygen-fits, encapsulate-fits, decapsulate-fits, seal-fits, open-fits}
-use Rattle.calls.proofs.Keys.{generated-done}
+use Rattle.keys.proofs.KeyLaws.{generated-done}
 
 -- the lengths fit, and what follows is Done
 done-after-lengths : {fit : Bool} {F G : Type 0} (a : Answer) → (fit ≡ true) ↔ F → (a ≡ Done) ↔ G → (unless fit WrongLength a ≡ Done) ↔ (F × G)
@@ -47,7 +51,7 @@ pub decapsulate-done : (k c d : List ℕ) (room : ℕ)
     × ((secretAnswer k ≡ Done)
     × (encapsulationAnswer c ≡ Done)
     × (tripleAnswer d ≡ Done)
-    × (outcomeAnswer (outcome k (tripleOf d) (c1Of c) (c2Of c)) ≡ Done)))
+    × (outcomeAnswer (outcome (elementsOf k) (tripleOf d) (c1Of c) (c2Of c)) ≡ Done)))
 unfolding decapsulateAnswer
 decapsulate-done k c d room =
     done-after-lengths _ (decapsulate-fits k c d room)
@@ -65,10 +69,10 @@ pub open-done : (k e noise : List ℕ) (room : ℕ)
     → (openAnswer k e noise room ≡ Done)
     ↔ (((length k ≡ 4357) × (length e ≡ 4133) × (length noise ≡ 1536) × (room ≡ 16))
     × ((secretAnswer k ≡ Done)
-    × (recordAnswer 80 76 71 e ≡ Done)
-    × (openedAnswer (outcome k (noiseTriple noise) (firstOf e) (secondOf e)) (bodyPart e) (tagPart e) ≡ Done)))
+    × (recordAnswer sealedEntryMark 1 e ≡ Done)
+    × (openedAnswer (outcome (elementsOf k) (noiseTriple noise) (firstOf e) (secondOf e)) (bodyPart e) (tagPart e) ≡ Done)))
 unfolding openAnswer
 open-done k e noise room =
     done-after-lengths _ (open-fits k e noise room)
-    (Iff·trans (Iff·trans (then-done (secretAnswer k) _) (Iff·and Iff·rfl (then-done (recordAnswer 80 76 71 e) _)))
+    (Iff·trans (Iff·trans (then-done (secretAnswer k) _) (Iff·and Iff·rfl (then-done (recordAnswer sealedEntryMark 1 e) _)))
     (λ (key, (front, opened)). (key, front, opened), λ (key, front, opened). (key, (front, opened))))

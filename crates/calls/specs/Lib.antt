@@ -1,5 +1,4 @@
 -- The public calls.
 pub mod Calls
 -- What is promised of them.
-pub mod WellFormed
 pub mod Promises

@@ -12,7 +12,7 @@ use Rattle.gf128.specs.Bytes.{Block, block, sum, product, tag, equal}
 use Rattle.gf128.proofs.FieldLaws.{part-block, sum-block, product-block, sum-twice}
 use Rattle.gf128.proofs.TagLaws.{tag-one}
 use Rattle.gf128.proofs.Comparison.{equal-iff}
-use Rattle.derivation.specs.Triple.{tripleBytes}
+use Rattle.records.specs.Triple.{tripleBytes}
 use Rattle.derivation.specs.Derivation.{keyMaterial, key0, key1, key2, keystream, bodyOf, tagOf, genuine?, entryOf, verifiedEntry}
 use Rattle.derivation.proofs.HashedBytes.{shake256-byte}
 
@@ -58,13 +58,9 @@ module _ (r e1 e2 : List ℕ) where
   unfolding entryOf
   entryOf-block h = sum-block h keystream-block
 
-  -- document 01's formula: K1 × body + K2
-  pub tagOf-is : {body : List ℕ} → Block body → tagOf r e1 e2 body ≡ sum (product (key1 r e1 e2) body) (key2 r e1 e2)
+  pub tagOf-block : (body : List ℕ) → Block (tagOf r e1 e2 body)
   unfolding tagOf
-  tagOf-is {body} h = tag-one (key1 r e1 e2) body (key2 r e1 e2) (h .size)
-
-  pub tagOf-block : {body : List ℕ} → Block body → Block (tagOf r e1 e2 body)
-  tagOf-block {body} h = rw (tagOf-is h) (sum-block (product-block (key1 r e1 e2) body) key2-block)
+  tagOf-block body = sum-block (product-block (key1 r e1 e2) body) key2-block
 
   -- ---- from the keys, as the code works them out
 
@@ -77,14 +73,15 @@ module _ (r e1 e2 : List ℕ) where
   unfolding bodyOf entryOf
   entry-by body k s b = body-by body k s b
 
-  pub tag-by : (body : List ℕ) {k1 k2 t : List ℕ} → k1 ≡ key1 r e1 e2 → k2 ≡ key2 r e1 e2 → t ≡ tag k1 body k2 → t ≡ tagOf r e1 e2 body
+  -- of one block the fold is K1 × body + K2
+  pub tag-by : (body : List ℕ) → length body ≡ 16 → {k1 k2 t : List ℕ} → k1 ≡ key1 r e1 e2 → k2 ≡ key2 r e1 e2 → t ≡ tag k1 body k2 → t ≡ tagOf r e1 e2 body
   unfolding tagOf
-  tag-by body p q e = e ∙ ap₂ (λ (k k′ : List ℕ). tag k body k′) p q
+  tag-by body size {k1} {k2} p q e = e ∙ tag-one k1 body k2 size ∙ ap₂ (λ (k k′ : List ℕ). sum (product k body) k′) p q
 
-  pub genuine-by : (body t : List ℕ) {k1 k2 expected : List ℕ} {g : Bool} → k1 ≡ key1 r e1 e2 → k2 ≡ key2 r e1 e2 → expected ≡ tag k1 body k2
+  pub genuine-by : (body : List ℕ) → length body ≡ 16 → (t : List ℕ) {k1 k2 expected : List ℕ} {g : Bool} → k1 ≡ key1 r e1 e2 → k2 ≡ key2 r e1 e2 → expected ≡ tag k1 body k2
       → g ≡ equal t expected → g ≡ genuine? r e1 e2 body t
   unfolding genuine?
-  genuine-by body t p q e g = g ∙ ap (equal t) (tag-by body p q e)
+  genuine-by body size t p q e g = g ∙ ap (equal t) (tag-by body size p q e)
 
   -- ---- opening
 

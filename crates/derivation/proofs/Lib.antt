@@ -1,5 +1,4 @@
 -- Laws of the definitions of specs/.
-pub mod Triples
 pub mod Laws
 -- What SHAKE256 puts out.
 pub mod HashedBytes

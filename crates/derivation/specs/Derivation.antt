@@ -4,8 +4,8 @@ use mathlib.Core.List.{List, _∷_}
 use Prim.Native.Nat.{ℕ}
 use Rattle.lists.specs.Table.{zeros}
 use Rattle.shake.specs.Shake.{shake256}
-use Rattle.gf128.specs.Bytes.{block, sum, tag, equal}
-use Rattle.derivation.specs.Triple.{tripleBytes}
+use Rattle.gf128.specs.Bytes.{block, sum, product, equal}
+use Rattle.records.specs.Triple.{tripleBytes}
 
 -- K: the first 48 bytes of SHAKE256 over byte 0x01 and the triple
 unfoldable pub keyMaterial : List ℕ → List ℕ → List ℕ → List ℕ
@@ -33,7 +33,7 @@ bodyOf r e1 e2 entry = sum entry (keystream r e1 e2)
 
 -- K1 × body + K2
 unfoldable pub tagOf : List ℕ → List ℕ → List ℕ → List ℕ → List ℕ
-tagOf r e1 e2 body = tag (key1 r e1 e2) body (key2 r e1 e2)
+tagOf r e1 e2 body = sum (product (key1 r e1 e2) body) (key2 r e1 e2)
 
 -- ---- opening it
 

@@ -41,6 +41,10 @@ packedAt t i =
     + 16 * codeOf (getD t (4 * i + 2) 0)
     + 64 * codeOf (getD t (4 * i + 3) 0)
 
--- the 256 bytes of a ternary polynomial
+-- how many bytes a ternary polynomial has
+abbrev pub ternaryLength : ℕ
+ternaryLength = 256
+
+-- the bytes of a ternary polynomial
 unfoldable pub ternaryBytes : List ℕ → List ℕ
-ternaryBytes t = table 256 (packedAt t)
+ternaryBytes t = table ternaryLength (packedAt t)

@@ -6,12 +6,17 @@ use lib.Dec.{eqb, leb}
 use lib.ListN.{length, getD}
 
 -- the first three bytes are this mark; not so where there are fewer
-unfoldable pub hasMark : ℕ → ℕ → ℕ → List ℕ → Bool
-hasMark m0 m1 m2 bytes = leb 3 (length bytes) && eqb (getD bytes 0 0) m0 && eqb (getD bytes 1 0) m1 && eqb (getD bytes 2 0) m2
+unfoldable pub hasMark : (mark bytes : List ℕ) → Bool
+hasMark mark bytes =
+    leb 3 (length bytes) && eqb (getD bytes 0 0) (getD mark 0 0) && eqb (getD bytes 1 0) (getD mark 1 0) && eqb (getD bytes 2 0) (getD mark 2 0)
 
 -- a missing byte counts as 0
 unfoldable pub versionOf : List ℕ → ℕ
 versionOf bytes = getD bytes 3 0 + 256 * getD bytes 4 0
 
-unfoldable pub header : ℕ → ℕ → ℕ → ℕ → List ℕ
-header m0 m1 m2 version = m0 ∷ m1 ∷ m2 ∷ version % 256 ∷ version / 256 % 256 ∷ []
+-- how many bytes these are
+abbrev pub headerLength : ℕ
+headerLength = 5
+
+unfoldable pub header : (mark : List ℕ) (version : ℕ) → List ℕ
+header mark version = getD mark 0 0 ∷ getD mark 1 0 ∷ getD mark 2 0 ∷ version % 256 ∷ version / 256 % 256 ∷ []

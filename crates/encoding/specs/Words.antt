@@ -24,6 +24,10 @@ elementOf bytes = table n (λ k. getD (words bytes) k 0)
 unfoldable pub firstUnreduced : List ℕ → ℕ
 firstUnreduced a = firstFailing (λ w. ltb w q) a
 
--- the 2,048 bytes of an element, two a word, the low one first
+-- how many bytes an element has
+abbrev pub elementLength : ℕ
+elementLength = 2048
+
+-- the bytes of an element, two a word, the low one first
 unfoldable pub elementBytes : List ℕ → List ℕ
-elementBytes a = table 2048 (digitAt 256 2 a)
+elementBytes a = table elementLength (digitAt 256 2 a)

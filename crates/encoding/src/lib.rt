@@ -1,13 +1,28 @@
 // Ring elements, ternary polynomials and headers of records as bytes: document 01, "Bytes".
 // Every function takes bytes and buffers of any length. A decoder counts missing bytes as zeros; an encoder writes at the front of
 // its buffer, and leaves a buffer that is too short as it came. Nothing here branches on a secret coefficient or indexes by one.
+use modq::Q;
+use ntt::DEGREE;
+use ntt::Element;
 ghost use mathlib.Core.Path.{_≡_};
 ghost use Prim.Native.Nat.{_+_, _*_, _<_, min};
 ghost use lib.ListN.{length, getD};
-ghost use Rattle.encoding.specs.Words.{elementOf, firstUnreduced, elementBytes};
-ghost use Rattle.encoding.specs.Codes.{coefficientOf, codeOf, ternaryOf, firstInvalidCode, ternaryBytes};
+ghost use Rattle.encoding.specs.Words.{elementLength, elementOf, firstUnreduced, elementBytes};
+ghost use Rattle.encoding.specs.Codes.{ternaryLength, coefficientOf, codeOf, ternaryOf, firstInvalidCode, ternaryBytes};
 ghost use Rattle.encoding.specs.Header.{hasMark, versionOf, header};
 ghost use Rattle.encoding.specs.Buffers.{putFront};
+
+// The bytes of an element, of a ternary polynomial, of a mark, and of a header, which is a mark and a version.
+pub const ELEMENT_LENGTH: usize = 2 * DEGREE;
+
+pub const TERNARY_LENGTH: usize = DEGREE / 4;
+
+pub const MARK_LENGTH: usize = 3;
+
+pub const HEADER_LENGTH: usize = MARK_LENGTH + 2;
+
+// The coefficient - 1.
+const MINUS_ONE: u16 = Q - 1;
 
 // The lesser of two lengths: how much of what is lent is read.
 pub fn lesser(a: usize, b: usize) -> usize
@@ -33,11 +48,11 @@ pub fn word(low: u8, high: u8) -> u16
 }
 
 // The first 1,024 words, reduced or not.
-pub fn decode_element(bytes: &[u8]) -> [u16; 1024]
+pub fn decode_element(bytes: &[u8]) -> Element
     ensures { λ r. ⌜ r ≡ elementOf (now (bytes .entry)) ⌝ }
 {
-    let mut a = [0u16; 1024];
-    let count = lesser(bytes.len() / 2, 1024);
+    let mut a = [0u16; DEGREE];
+    let count = lesser(bytes.len() / 2, DEGREE);
     for k in 0..count {
         a[k] = word(bytes[2 * k], bytes[2 * k + 1]);
     }
@@ -45,22 +60,22 @@ pub fn decode_element(bytes: &[u8]) -> [u16; 1024]
 }
 
 // The place of the first word that is 59,393 or more, and 1,024 where there is none.
-pub fn first_unreduced(a: [u16; 1024]) -> usize
+pub fn first_unreduced(a: Element) -> usize
     ensures { λ r. ⌜ r ≡ firstUnreduced a ⌝ }
 {
-    for k in 0..1024 {
-        if a[k] >= 59393 {
+    for k in 0..DEGREE {
+        if a[k] >= Q {
             return k;
         }
     }
-    1024
+    DEGREE
 }
 
-fn put_element(a: [u16; 1024], out: &mut [u8])
-    requires { ⌜ length (now out) ≡ 2048 ⌝ }
+fn put_element(a: Element, out: &mut [u8])
+    requires { ⌜ length (now out) ≡ elementLength ⌝ }
     ensures { λ _. ⌜ now (out .exit) ≡ elementBytes a ⌝ }
 {
-    for k in 0..1024 {
+    for k in 0..DEGREE {
         let w = a[k];
         out[2 * k] = (w % 256) as u8;
         out[2 * k + 1] = (w / 256) as u8;
@@ -68,11 +83,11 @@ fn put_element(a: [u16; 1024], out: &mut [u8])
 }
 
 // Writes the 2,048 bytes of the words.
-pub fn encode_element(a: [u16; 1024], out: &mut [u8])
+pub fn encode_element(a: Element, out: &mut [u8])
     ensures { λ _. ⌜ now (out .exit) ≡ putFront (elementBytes a) (now (out .entry)) ⌝ }
 {
-    if out.len() >= 2048 {
-        put_element(a, &mut out[..2048]);
+    if out.len() >= ELEMENT_LENGTH {
+        put_element(a, &mut out[..ELEMENT_LENGTH]);
     }
 }
 
@@ -82,15 +97,15 @@ pub fn encode_element(a: [u16; 1024], out: &mut [u8])
 pub fn coefficient(code: u8) -> u16
     ensures { λ r. ⌜ r ≡ coefficientOf code ⌝ }
 {
-    (code == 1) as u16 + 59392 * ((code == 2) as u16)
+    (code == 1) as u16 + MINUS_ONE * ((code == 2) as u16)
 }
 
 // The coefficients of the first 256 bytes, whatever the codes are.
-pub fn decode_ternary(bytes: &[u8]) -> [u16; 1024]
+pub fn decode_ternary(bytes: &[u8]) -> Element
     ensures { λ r. ⌜ r ≡ ternaryOf (now (bytes .entry)) ⌝ }
 {
-    let mut t = [0u16; 1024];
-    let count = lesser(bytes.len(), 256);
+    let mut t = [0u16; DEGREE];
+    let count = lesser(bytes.len(), TERNARY_LENGTH);
     for i in 0..count {
         let b = bytes[i];
         t[4 * i] = coefficient(b % 4);
@@ -105,7 +120,7 @@ pub fn decode_ternary(bytes: &[u8]) -> [u16; 1024]
 pub fn first_invalid_code(bytes: &[u8]) -> usize
     ensures { λ r. ⌜ r ≡ firstInvalidCode (now (bytes .entry)) ⌝ }
 {
-    let count = lesser(bytes.len(), 256);
+    let count = lesser(bytes.len(), TERNARY_LENGTH);
     for i in 0..count {
         let b = bytes[i];
         if b % 4 == 3 {
@@ -121,21 +136,21 @@ pub fn first_invalid_code(bytes: &[u8]) -> usize
             return 4 * i + 3;
         }
     }
-    1024
+    DEGREE
 }
 
 // The code of a coefficient: 1 of 1, 2 of - 1, and 0 of every other.
 fn code(c: u16) -> u8
     ensures { λ r. ⌜ (r ≡ codeOf c) × (r < 3) ⌝ }
 {
-    (c == 1) as u8 + 2 * ((c == 59392) as u8)
+    (c == 1) as u8 + 2 * ((c == MINUS_ONE) as u8)
 }
 
-fn put_ternary(t: [u16; 1024], out: &mut [u8])
-    requires { ⌜ length (now out) ≡ 256 ⌝ }
+fn put_ternary(t: Element, out: &mut [u8])
+    requires { ⌜ length (now out) ≡ ternaryLength ⌝ }
     ensures { λ _. ⌜ now (out .exit) ≡ ternaryBytes t ⌝ }
 {
-    for i in 0..256 {
+    for i in 0..TERNARY_LENGTH {
         let c0 = code(t[4 * i]);
         let c1 = code(t[4 * i + 1]);
         let c2 = code(t[4 * i + 2]);
@@ -145,30 +160,30 @@ fn put_ternary(t: [u16; 1024], out: &mut [u8])
 }
 
 // Writes the 256 bytes of the coefficients' codes.
-pub fn encode_ternary(t: [u16; 1024], out: &mut [u8])
+pub fn encode_ternary(t: Element, out: &mut [u8])
     ensures { λ _. ⌜ now (out .exit) ≡ putFront (ternaryBytes t) (now (out .entry)) ⌝ }
 {
-    if out.len() >= 256 {
-        put_ternary(t, &mut out[..256]);
+    if out.len() >= TERNARY_LENGTH {
+        put_ternary(t, &mut out[..TERNARY_LENGTH]);
     }
 }
 
 // ---- marks and versions
 
 // Whether the first three bytes are this mark.
-pub fn has_mark(bytes: &[u8], m0: u8, m1: u8, m2: u8) -> bool
-    ensures { λ r. ⌜ r ≡ hasMark m0 m1 m2 (now (bytes .entry)) ⌝ }
+pub fn has_mark(bytes: &[u8], mark: [u8; MARK_LENGTH]) -> bool
+    ensures { λ r. ⌜ r ≡ hasMark mark (now (bytes .entry)) ⌝ }
 {
-    if bytes.len() < 3 {
+    if bytes.len() < MARK_LENGTH {
         return false;
     }
-    if bytes[0] != m0 {
+    if bytes[0] != mark[0] {
         return false;
     }
-    if bytes[1] != m1 {
+    if bytes[1] != mark[1] {
         return false;
     }
-    bytes[2] == m2
+    bytes[2] == mark[2]
 }
 
 // The version after the mark.
@@ -179,13 +194,13 @@ pub fn version(bytes: &[u8]) -> u16
 }
 
 // Writes a mark and a version, five bytes.
-pub fn encode_header(m0: u8, m1: u8, m2: u8, version: u16, out: &mut [u8])
-    ensures { λ _. ⌜ now (out .exit) ≡ putFront (header m0 m1 m2 version) (now (out .entry)) ⌝ }
+pub fn encode_header(mark: [u8; MARK_LENGTH], version: u16, out: &mut [u8])
+    ensures { λ _. ⌜ now (out .exit) ≡ putFront (header mark version) (now (out .entry)) ⌝ }
 {
-    if out.len() >= 5 {
-        out[0] = m0;
-        out[1] = m1;
-        out[2] = m2;
+    if out.len() >= HEADER_LENGTH {
+        out[0] = mark[0];
+        out[1] = mark[1];
+        out[2] = mark[2];
         out[3] = (version % 256) as u8;
         out[4] = (version / 256) as u8;
     }

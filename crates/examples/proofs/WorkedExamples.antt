@@ -1,12 +1,16 @@
--- Every starred worked example holds, each by the fact of its crate.
-use Rattle.ring.proofs.WorkedExamples as Ring
-use Rattle.sampling.proofs.WorkedExamples as Sampling
-use Rattle.gf128.proofs.WorkedExamples as Field
+-- Every starred worked example holds, straight from the definitions.
+use mathlib.Core.Path.{refl}
+use native.Mathlib.Omega.{arith}
+use Rattle.ring.specs.Centred.{centred, aroundZero, centredRemainder}
+use Rattle.ring.proofs.Powers.{powers-wrap}
+use Rattle.sampling.specs.Noise.{folded, fourBits}
+use Rattle.gf128.specs.Field.{carrylessProduct, remainder, times}
+use Rattle.gf128.specs.Bytes.{bytes, product}
 use Rattle.examples.specs.Examples.{AllHold, examples}
 
 pub examples-hold : AllHold examples
+unfolding centred aroundZero centredRemainder folded fourBits carrylessProduct remainder times bytes product
 examples-hold =
-    let (x1023, (x512, (m3, (n3, (m20482, (m29696, (n29696, (c59392, _)))))))) = Ring.examples-hold in
-    let (t0, (t1, (t3, (t4, (t7, (t12, (t15, _))))))) = Sampling.examples-hold in
-    let field = Field.examples-hold in
-    (x1023, (x512, (t0, (t1, (t3, (t4, (t7, (t12, (t15, (m3, (n3, (m20482, (m29696, (n29696, (c59392, field)))))))))))))))
+    let x1023 = powers-wrap 1023 1 (omega arith) (omega arith) refl in
+    let x512 = powers-wrap 512 512 (omega arith) (omega arith) refl in
+    (x1023, (x512, (refl, (refl, (refl, (refl, (refl, (refl, (refl, (refl, (refl, (refl, (refl, (refl, (refl, (refl, tt))))))))))))))))

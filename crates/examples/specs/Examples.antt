@@ -1,21 +1,33 @@
 -- The worked examples of document 01 ("Lanes to try") that are marked with a star, as one table of cases, in its order.
+use mathlib.Core.Path.{_≡_}
 use mathlib.Core.List.{List, [], _∷_}
-use lib.IntN.{pos, negℤ}
-use Rattle.ring.specs.Examples as Ring
-use Rattle.sampling.specs.Examples as Sampling
-use Rattle.gf128.specs.Examples as Field
+use Prim.Native.Nat.{ℕ, _^_}
+use lib.IntN.{ℤ, pos, negℤ}
+use Rattle.lists.specs.Table.{zeros}
+use Rattle.ring.specs.Ring.{constant, power, product}
+use Rattle.ring.specs.Centred.{centred, centredRemainder}
+use Rattle.sampling.specs.Noise.{fourBits}
+use Rattle.gf128.specs.Bytes as Field
 
--- an example of one of the crates below
+-- a kind of example to a constructor
 pub data Example : Type 0 where
-  ring : Ring.Example → Example
-  sampling : Sampling.Example → Example
-  field : Field.Example → Example
+  -- X^i × X^j is the constant c
+  powers : (i j c : ℕ) → Example
+  -- the four bits t give s
+  noise : (t : ℕ) (s : ℤ) → Example
+  -- the remainder of m by 5 is r
+  remainder : (m r : ℤ) → Example
+  -- the remainder of the coefficient c is r
+  coefficient : (c : ℕ) (r : ℤ) → Example
+  -- x^i × x^j in the tag's field is byte c followed by 15 zero bytes
+  field : (i j c : ℕ) → Example
 
--- what it says, in the definitions of its crate
 abbrev pub Holds : Example → Type 0
-Holds (ring e) = Ring.Holds e
-Holds (sampling e) = Sampling.Holds e
-Holds (field e) = Field.Holds e
+Holds (powers i j c) = product (power i) (power j) ≡ constant c
+Holds (noise t s) = fourBits t ≡ s
+Holds (remainder m r) = centredRemainder m ≡ r
+Holds (coefficient c r) = centredRemainder (centred c) ≡ r
+Holds (field i j c) = Field.product (Field.bytes 16 (2 ^ i)) (Field.bytes 16 (2 ^ j)) ≡ c ∷ zeros 15
 
 abbrev pub AllHold : List Example → Type 0
 AllHold [] = Unit {0}
@@ -23,25 +35,21 @@ AllHold (e ∷ es) = Holds e × AllHold es
 
 abbrev pub examples : List Example
 examples =
-    -- X^1023 × X and X^512 × X^512
-    ring (Ring.powers 1023 1 59392)
-    ∷ ring (Ring.powers 512 512 59392)
-    -- four bits
-    ∷ sampling (Sampling.noise 0 (pos 0))
-    ∷ sampling (Sampling.noise 1 (pos 1))
-    ∷ sampling (Sampling.noise 3 (negℤ (pos 1)))
-    ∷ sampling (Sampling.noise 4 (negℤ (pos 1)))
-    ∷ sampling (Sampling.noise 7 (pos 1))
-    ∷ sampling (Sampling.noise 12 (pos 1))
-    ∷ sampling (Sampling.noise 15 (pos 0))
-    -- remainders by 5
-    ∷ ring (Ring.remainder (pos 3) (negℤ (pos 2)))
-    ∷ ring (Ring.remainder (negℤ (pos 3)) (pos 2))
-    ∷ ring (Ring.remainder (pos 20482) (pos 2))
-    ∷ ring (Ring.remainder (pos 29696) (pos 1))
-    ∷ ring (Ring.remainder (negℤ (pos 29696)) (negℤ (pos 1)))
-    -- the remainder of the coefficient 59,392, of "False starts"
-    ∷ ring (Ring.coefficient 59392 (negℤ (pos 1)))
-    -- x^127 × x in the tag's field
-    ∷ field (Field.powers 127 1 135)
+    powers 1023 1 59392
+    ∷ powers 512 512 59392
+    ∷ noise 0 (pos 0)
+    ∷ noise 1 (pos 1)
+    ∷ noise 3 (negℤ (pos 1))
+    ∷ noise 4 (negℤ (pos 1))
+    ∷ noise 7 (pos 1)
+    ∷ noise 12 (pos 1)
+    ∷ noise 15 (pos 0)
+    ∷ remainder (pos 3) (negℤ (pos 2))
+    ∷ remainder (negℤ (pos 3)) (pos 2)
+    ∷ remainder (pos 20482) (pos 2)
+    ∷ remainder (pos 29696) (pos 1)
+    ∷ remainder (negℤ (pos 29696)) (negℤ (pos 1))
+    -- of "False starts"
+    ∷ coefficient 59392 (negℤ (pos 1))
+    ∷ field 127 1 135
     ∷ []

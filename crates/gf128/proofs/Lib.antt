@@ -8,5 +8,3 @@ pub mod FieldLaws
 -- The tag, and comparison.
 pub mod TagLaws
 pub mod Comparison
--- The worked example.
-pub mod WorkedExamples

@@ -4,5 +4,3 @@ pub mod Bytes
 pub mod Powers
 -- what the private steps of the product keep
 pub mod Words
--- the worked example of document 01
-pub mod Examples

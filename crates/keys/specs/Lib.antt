@@ -1,2 +1,3 @@
 -- Keys read off bytes.
+pub mod Keys
 pub mod Prepared

@@ -1,7 +1,15 @@
 // Keys and triples read off the bytes that a call was lent: checked in document 01's order, and prepared for the scheme.
 // The calls test every length first, so the functions here are lent buffers of the record's length.
+use ntt::DEGREE;
+use ntt::Element;
+use ntt::Spectrum;
 use records::Answer;
+use records::PUBLIC_KEY_MARK;
 use records::Refusal;
+use records::SECRET_KEY_LENGTH;
+use records::SECRET_KEY_MARK;
+use records::THIRD;
+use sampling::NOISE_LENGTH;
 use scheme::KeyCheck;
 use scheme::Triple;
 ghost use mathlib.Core.Path.{_≡_};
@@ -11,8 +19,9 @@ ghost use Rattle.ntt.specs.Factors.{forwardFactors, backwardFactors};
 ghost use Rattle.sampling.specs.Noise.{ternaryNoise};
 ghost use Rattle.sampling.specs.Stream.{uniformElement};
 ghost use Rattle.scheme.specs.Answers as Struct;
+ghost use Rattle.records.specs.Layout.{publicKeyLength, secretKeyLength};
 ghost use Rattle.records.specs.Records.{firstOf, secondOf};
-ghost use Rattle.calls.specs.Calls.{publicAnswer, verdictAnswer, secretAnswer, generatedAnswer, keygenB, tripleOf, noiseTriple};
+ghost use Rattle.keys.specs.Keys.{publicAnswer, verdictAnswer, secretAnswer, elementsOf, generatedAnswer, keygenB, tripleNoiseLength, noiseTriple};
 ghost use Rattle.keys.specs.Prepared.{Prepared};
 
 // ---- public keys
@@ -20,18 +29,18 @@ ghost use Rattle.keys.specs.Prepared.{Prepared};
 // What the checks of a public key answer, and the spectra of a and b.
 pub struct PublicKey {
     pub answer: Answer,
-    pub a: [u16; 1024],
-    pub b: [u16; 1024],
+    pub a: Spectrum,
+    pub b: Spectrum,
 }
 
 // Of a record with the mark "PDK".
 pub fn read_public_key(bytes: &[u8], forward: &[u16]) -> PublicKey
-    requires { ⌜ (length (now bytes) ≡ 4101) × (now forward ≡ forwardFactors) ⌝ }
+    requires { ⌜ (length (now bytes) ≡ publicKeyLength) × (now forward ≡ forwardFactors) ⌝ }
     ensures { λ k. ⌜ k .answer ≡ publicAnswer (now (bytes .entry)) ⌝ }
     ensures { λ k. ⌜ (k .a ≡ spectrumOf (firstOf (now (bytes .entry)))) × (k .b ≡ spectrumOf (secondOf (now (bytes .entry)))) ⌝ }
 {
-    let read = records::read_record(bytes, 80, 68, 75);
-    let record = read.answer;
+    let read = records::read_record(bytes, PUBLIC_KEY_MARK, 1);
+    let record = records::front_answer(read);
     let first = read.first;
     let second = read.second;
     let key = scheme::public_key(first, second, forward);
@@ -60,24 +69,25 @@ fn verdict_answer(check: KeyCheck) -> Answer
 // What the checks of a secret key answer, and the key prepared.
 pub struct SecretKey {
     pub answer: Answer,
-    pub key: scheme::SecretKey,
+    pub key: scheme::PreparedKey,
 }
 
 // Of a record with the mark "SDK".
 pub fn read_secret_key(bytes: &[u8], forward: &[u16], backward: &[u16]) -> SecretKey
-    requires { ⌜ length (now bytes) ≡ 4357 ⌝ }
+    requires { ⌜ length (now bytes) ≡ secretKeyLength ⌝ }
     requires { ⌜ (now forward ≡ forwardFactors) × (now backward ≡ backwardFactors) ⌝ }
     ensures { λ k. ⌜ k .answer ≡ secretAnswer (now (bytes .entry)) ⌝ }
-    ensures { λ k. ⌜ Prepared (now (bytes .entry)) (k .key) ⌝ }
+    ensures { λ k. ⌜ Prepared (elementsOf (now (bytes .entry))) (k .key) ⌝ }
 {
-    let read = records::read_record(bytes, 83, 68, 75);
-    let record = read.answer;
+    let read = records::read_record(bytes, SECRET_KEY_MARK, 1);
+    let record = records::front_answer(read);
     let a = read.first;
     let b = read.second;
-    let codes = records::check_codes(&bytes[4101..4357]);
-    let s = encoding::decode_ternary(&bytes[4101..4357]);
-    let key = scheme::secret_key(a, b, s, forward, backward);
-    let check = key.check;
+    let codes = records::check_codes(&bytes[THIRD..SECRET_KEY_LENGTH]);
+    let s = encoding::decode_ternary(&bytes[THIRD..SECRET_KEY_LENGTH]);
+    let checked = scheme::secret_key(a, b, s, forward, backward);
+    let check = checked.check;
+    let key = checked.key;
     let verdict = verdict_answer(check);
     SecretKey {
         answer: records::and_then(record, records::and_then(codes, verdict)),
@@ -90,9 +100,9 @@ pub fn read_secret_key(bytes: &[u8], forward: &[u16], backward: &[u16]) -> Secre
 // What key generation answers, and the a, b and s that it writes under Done.
 pub struct NewKey {
     pub answer: Answer,
-    pub a: [u16; 1024],
-    pub b: [u16; 1024],
-    pub s: [u16; 1024],
+    pub a: Element,
+    pub b: Element,
+    pub s: Element,
 }
 
 pub fn generate(stream: &[u8], s: &[u8], e: &[u8]) -> NewKey
@@ -103,7 +113,7 @@ pub fn generate(stream: &[u8], s: &[u8], e: &[u8]) -> NewKey
     let forward = ntt::forward_factors();
     let backward = ntt::backward_factors();
     let u = sampling::uniform(stream);
-    let enough = records::unless(u.count == 1024, Refusal::StreamExhausted);
+    let enough = records::unless(u.count == DEGREE, Refusal::StreamExhausted);
     let a = u.value;
     let secret = sampling::ternary(s);
     let noise = sampling::ternary(e);
@@ -120,24 +130,20 @@ pub fn generate(stream: &[u8], s: &[u8], e: &[u8]) -> NewKey
 
 // ---- triples
 
-// Of 768 bytes, whatever their codes.
-pub fn read_triple(bytes: &[u8]) -> Triple
-    requires { ⌜ length (now bytes) ≡ 768 ⌝ }
-    ensures { λ t. ⌜ Struct.tripleOf t ≡ tripleOf (now (bytes .entry)) ⌝ }
-{
-    let r = encoding::decode_ternary(&bytes[0..256]);
-    let e1 = encoding::decode_ternary(&bytes[256..512]);
-    let e2 = encoding::decode_ternary(&bytes[512..768]);
-    Triple { r, e1, e2 }
-}
+// Where the noise of e1 and of e2 starts, behind that of r, and where it ends.
+const E1: usize = NOISE_LENGTH;
 
-// Of 1,536 noise bytes.
+const E2: usize = 2 * NOISE_LENGTH;
+
+pub const TRIPLE_NOISE_LENGTH: usize = 3 * NOISE_LENGTH;
+
+// Of noise.
 pub fn noise_triple(noise: &[u8]) -> Triple
-    requires { ⌜ length (now noise) ≡ 1536 ⌝ }
+    requires { ⌜ length (now noise) ≡ tripleNoiseLength ⌝ }
     ensures { λ t. ⌜ Struct.tripleOf t ≡ noiseTriple (now (noise .entry)) ⌝ }
 {
-    let r = sampling::ternary(&noise[0..512]);
-    let e1 = sampling::ternary(&noise[512..1024]);
-    let e2 = sampling::ternary(&noise[1024..1536]);
+    let r = sampling::ternary(&noise[0..E1]);
+    let e1 = sampling::ternary(&noise[E1..E2]);
+    let e2 = sampling::ternary(&noise[E2..TRIPLE_NOISE_LENGTH]);
     Triple { r, e1, e2 }
 }

@@ -1,28 +1,41 @@
--- The checks of a header, one after the other.
-use mathlib.Core.Path.{_≡_, sym, ap, ap₂}
+-- The checks of a record, one after the other.
+use mathlib.Core.Path.{_≡_, sym, ap, ap₂, _∙_}
 use mathlib.Core.Bool.{Bool, true, false}
 use mathlib.Core.List.{List}
 use Prim.Native.Nat.{ℕ}
 use lib.Dec.{eqb}
+use Rattle.encoding.specs.Words.{firstUnreduced}
 use Rattle.encoding.specs.Header.{hasMark, versionOf}
 use Rattle.records.specs.declared.Refusal.the-variants.{WrongMark, WrongVersion}
 use Rattle.records.specs.declared.Answer.{Answer}
 use Rattle.records.specs.declared.Answer.the-variants.{Done, Refused}
-use Rattle.records.specs.Answers.{unless}
-use Rattle.records.specs.Records.{headerAnswer}
+use Rattle.records.specs.Answers.{unless, andThen}
+use Rattle.records.specs.Records.{firstOf, secondOf, c1Of, c2Of, headerAnswer, elementsAnswer, recordAnswer, encapsulationAnswer}
 
-module _ (m0 m1 m2 : ℕ) (bytes : List ℕ) where
+module _ (mark : List ℕ) (version : ℕ) (bytes : List ℕ) where
   abbrev judged : Bool → Bool → Answer
-  judged mark version = unless mark WrongMark (unless version WrongVersion Done)
+  judged m v = unless m WrongMark (unless v WrongVersion Done)
 
-  pub wrong-mark : hasMark m0 m1 m2 bytes ≡ false → Refused WrongMark ≡ headerAnswer m0 m1 m2 bytes
+  pub wrong-mark : hasMark mark bytes ≡ false → Refused WrongMark ≡ headerAnswer mark version bytes
   unfolding headerAnswer
-  wrong-mark m = sym (ap (λ (b : Bool). judged b (eqb (versionOf bytes) 1)) m)
+  wrong-mark m = sym (ap (λ (b : Bool). judged b (eqb (versionOf bytes) version)) m)
 
-  pub wrong-version : hasMark m0 m1 m2 bytes ≡ true → eqb (versionOf bytes) 1 ≡ false → Refused WrongVersion ≡ headerAnswer m0 m1 m2 bytes
+  pub wrong-version : hasMark mark bytes ≡ true → eqb (versionOf bytes) version ≡ false → Refused WrongVersion ≡ headerAnswer mark version bytes
   unfolding headerAnswer
   wrong-version m v = sym (ap₂ judged m v)
 
-  pub header-done : hasMark m0 m1 m2 bytes ≡ true → eqb (versionOf bytes) 1 ≡ true → Done ≡ headerAnswer m0 m1 m2 bytes
+  pub header-done : hasMark mark bytes ≡ true → eqb (versionOf bytes) version ≡ true → Done ≡ headerAnswer mark version bytes
   unfolding headerAnswer
   header-done m v = sym (ap₂ judged m v)
+
+  -- the front of a record, from what was read of it
+  pub front-checked : {h a : Answer} {i j : ℕ} → h ≡ headerAnswer mark version bytes
+      → (i ≡ firstUnreduced (firstOf bytes)) × (j ≡ firstUnreduced (secondOf bytes)) → a ≡ andThen h (elementsAnswer i j) → a ≡ recordAnswer mark version bytes
+  unfolding recordAnswer
+  front-checked e (ei, ej) f = f ∙ ap₂ andThen e (ap₂ elementsAnswer ei ej)
+
+-- the words of an encapsulation
+pub words-checked : (bytes : List ℕ) {h a : Answer} {i j : ℕ} → h ≡ Done
+    → (i ≡ firstUnreduced (c1Of bytes)) × (j ≡ firstUnreduced (c2Of bytes)) → a ≡ andThen h (elementsAnswer i j) → a ≡ encapsulationAnswer bytes
+unfolding encapsulationAnswer
+words-checked bytes e (ei, ej) f = f ∙ ap₂ andThen e (ap₂ elementsAnswer ei ej)

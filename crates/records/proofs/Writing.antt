@@ -8,12 +8,13 @@ use Rattle.encoding.specs.Header.{header}
 use Rattle.encoding.specs.Words.{elementBytes}
 use Rattle.encoding.proofs.Words.{length-elementBytes}
 use Rattle.encoding.proofs.Headers.{length-header}
+use Rattle.records.specs.Layout.{thirdPlace}
 use Rattle.records.specs.Records.{recordBytes}
 
-pub length-recordBytes : (m0 m1 m2 : ℕ) (first second : List ℕ) → length (recordBytes m0 m1 m2 first second) ≡ 4101
+pub length-recordBytes : (mark : List ℕ) (version : ℕ) (first second : List ℕ) → length (recordBytes mark version first second) ≡ thirdPlace
 unfolding recordBytes
-length-recordBytes m0 m1 m2 first second =
-    let h = header m0 m1 m2 1 in
+length-recordBytes mark version first second =
+    let h = header mark version in
     let x = elementBytes first in
     let y = elementBytes second in
-    omega (arith, length-append (h ++ x) y, length-append h x, length-header m0 m1 m2 1, length-elementBytes first, length-elementBytes second)
+    omega (arith, length-append (h ++ x) y, length-append h x, length-header mark version, length-elementBytes first, length-elementBytes second)

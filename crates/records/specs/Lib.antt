@@ -1,3 +1,8 @@
 -- Answers, and records as bytes.
 pub mod Answers
+pub mod Layout
 pub mod Records
+pub mod Triple
+pub mod Read
+-- when they are well formed
+pub mod WellFormed

@@ -1,4 +1,5 @@
 // The product of the ring over bytes, for C: no call of crate `polka` is a product alone, and the benchmark times one.
+use encoding::ELEMENT_LENGTH;
 ghost use mathlib.Core.Path.{_≡_};
 ghost use Rattle.ring_product.specs.Product.{productNumber, productOut};
 
@@ -9,7 +10,9 @@ pub extern "C" fn ring_product(a: &[u8], b: &[u8], out: &mut [u8]) -> u32
     ensures { λ n. ⌜ n ≡ productNumber (now (a .entry)) (now (b .entry)) (now (out .entry)) ⌝ }
     ensures { λ _. ⌜ now (out .exit) ≡ productOut (now (a .entry)) (now (b .entry)) (now (out .entry)) ⌝ }
 {
-    let fits = (a.len() == 2048) & (b.len() == 2048) & (out.len() == 2048);
+    let fits = (a.len() == ELEMENT_LENGTH)
+        & (b.len() == ELEMENT_LENGTH)
+        & (out.len() == ELEMENT_LENGTH);
     if !fits {
         return 1;
     }

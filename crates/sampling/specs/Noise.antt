@@ -28,6 +28,10 @@ noiseCoefficient t = residue (fourBits t)
 abbrev pub nibbleAt : List ℕ → ℕ → ℕ
 nibbleAt bytes k = digitAt 16 2 bytes k
 
+-- how many bytes a ternary polynomial is read from
+abbrev pub noiseLength : ℕ
+noiseLength = 512
+
 -- the ternary polynomial of the first 512 bytes
 unfoldable pub ternaryNoise : List ℕ → List ℕ
 ternaryNoise bytes = table n (λ k. noiseCoefficient (nibbleAt bytes k))

@@ -1,9 +1,22 @@
 // Polynomials from random bytes: document 01, "Desk key". Both functions take bytes of any length.
+use modq::Q;
+use ntt::DEGREE;
+use ntt::Element;
 ghost use mathlib.Core.Path.{_≡_};
 ghost use Prim.Native.Nat.{_%_};
 ghost use lib.ListN.{length};
 ghost use Rattle.sampling.specs.Noise.{noiseCoefficient, ternaryNoise};
 ghost use Rattle.sampling.specs.Stream.{taken, uniformElement};
+
+// The bytes that a ternary polynomial is read from: two coefficients a byte.
+pub const NOISE_LENGTH: usize = DEGREE / 2;
+
+// A stream's blocks, the words of a block, and its bytes.
+const BLOCKS: usize = 16;
+
+const BLOCK_WORDS: usize = 84;
+
+pub const STREAM_LENGTH: usize = 2 * BLOCKS * BLOCK_WORDS;
 
 // ---- noise
 
@@ -20,11 +33,11 @@ fn noise(t: u8) -> u16
 }
 
 // The ternary polynomial of the first 512 bytes, two coefficients a byte. Missing bytes count as zeros.
-pub fn ternary(bytes: &[u8]) -> [u16; 1024]
+pub fn ternary(bytes: &[u8]) -> Element
     ensures { λ r. ⌜ r ≡ ternaryNoise (now (bytes .entry)) ⌝ }
 {
-    let mut t = [0u16; 1024];
-    let count = encoding::lesser(bytes.len(), 512);
+    let mut t = [0u16; DEGREE];
+    let count = encoding::lesser(bytes.len(), NOISE_LENGTH);
     for i in 0..count {
         let b = bytes[i];
         t[2 * i] = noise(b % 16);
@@ -39,26 +52,26 @@ pub fn ternary(bytes: &[u8]) -> [u16; 1024]
 // The stream was exhausted where the count is below 1,024.
 pub struct UniformSample {
     pub count: usize,
-    pub value: [u16; 1024],
+    pub value: Element,
 }
 
 // Reads 16 blocks of 84 words, up to the word that completes the polynomial or to the last whole word of a shorter stream.
 pub fn uniform(stream: &[u8]) -> UniformSample
     ensures { λ r. ⌜ (r .count ≡ length (taken (now (stream .entry)))) × (r .value ≡ uniformElement (now (stream .entry))) ⌝ }
 {
-    let mut value = [0u16; 1024];
+    let mut value = [0u16; DEGREE];
     let mut count: usize = 0;
-    'blocks: for k in 0..16 {
-        for j in 0..84 {
-            let at = 2 * (84 * k + j);
+    'blocks: for k in 0..BLOCKS {
+        for j in 0..BLOCK_WORDS {
+            let at = 2 * (BLOCK_WORDS * k + j);
             if at + 1 >= stream.len() {
                 break 'blocks;
             }
             let w = encoding::word(stream[at], stream[at + 1]);
-            if w < 59393 {
+            if w < Q {
                 value[count] = w;
                 count += 1;
-                if count == 1024 {
+                if count == DEGREE {
                     break 'blocks;
                 }
             }

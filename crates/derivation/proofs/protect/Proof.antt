@@ -1,4 +1,5 @@
 use mathlib.Core.Path.{_≡_, ap, _∙_}
+use lib.ListN.{length}
 use Rattle.derivation.specs.Derivation.{tagOf}
 use Rattle.derivation.proofs.Laws.{body-by, tag-by}
 use borrow.Author.Needs.{needs}
@@ -28,7 +29,8 @@ returns c =
     let e2 = args .e2 in
     let (first, second, third) = c .before .before .before .before .before .before .before .derive-keys .ensures in
     let body = body-by r e1 e2 _ first (c .before .before .before .keystream .ensures) (c .before .before .sum .ensures) in
-    (body, tag-by r e1 e2 _ second third (c .tag .ensures) ∙ ap (tagOf r e1 e2) body)
+    let size : length (c .before .before .sum .result) ≡ 16 = search needs in
+    (body, tag-by r e1 e2 _ size second third (c .tag .ensures) ∙ ap (tagOf r e1 e2) body)
 
 pub protect-spec : {M : Type 1} → statement M
 protect-spec =

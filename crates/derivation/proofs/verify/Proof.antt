@@ -1,4 +1,5 @@
 use mathlib.Core.Path.{_≡_, sym, _∙_}
+use lib.ListN.{length}
 use Rattle.derivation.proofs.Laws.{entry-by, genuine-by, verifiedEntry-genuine, verifiedEntry-refused}
 use borrow.Author.Needs.{needs}
 use Rattle.derivation.proofs.verify.Statement.{statement}
@@ -29,9 +30,10 @@ returns c =
     let e1 = args .e1 in
     let e2 = args .e2 in
     let body = args .t4 in
+    let size : length body ≡ 16 = search needs in
     let (first, second, third) = c .before .before .before .before .before .before .before .before .before .derive-keys .ensures in
     let genuine =
-    genuine-by r e1 e2 body (args .tag) second third (c .before .before .before .before .tag .ensures) (c .before .before .before .equal .ensures) in
+    genuine-by r e1 e2 body size (args .tag) second third (c .before .before .before .before .tag .ensures) (c .before .before .before .equal .ensures) in
     let shown = verifiedEntry-genuine r e1 e2 body (args .tag) (sym genuine ∙ c .before .before .if1 .taken) in
     (genuine, entry-by r e1 e2 body first (c .before .keystream .ensures) (c .sum .ensures) ∙ sym shown)
 
@@ -42,8 +44,9 @@ returns-2 c =
     let e1 = args .e1 in
     let e2 = args .e2 in
     let body = args .t4 in
+    let size : length body ≡ 16 = search needs in
     let (first, second, third) = c .before .before .before .before .before .before .before .derive-keys .ensures in
-    let genuine = genuine-by r e1 e2 body (args .tag) second third (c .before .before .tag .ensures) (c .before .equal .ensures) in
+    let genuine = genuine-by r e1 e2 body size (args .tag) second third (c .before .before .tag .ensures) (c .before .equal .ensures) in
     (genuine, sym (verifiedEntry-refused r e1 e2 body (args .tag) (sym genuine ∙ c .if1 .left)))
 
 pub verify-spec : {M : Type 1} → statement M

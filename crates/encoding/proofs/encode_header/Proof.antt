@@ -9,11 +9,20 @@ use borrow.Author.Needs.{needs}
 use Rattle.encoding.proofs.encode_header.Statement.{statement}
 use Rattle.encoding.proofs.encode_header.Tie as tie
 
+array-read-out : tie.Need-array-read-out
+array-read-out c = search needs
+
 slice-write-out : tie.Need-slice-write-out
 slice-write-out c = search needs
 
+array-read-out-2 : tie.Need-array-read-out-2
+array-read-out-2 c = search needs
+
 slice-write-out-2 : tie.Need-slice-write-out-2
 slice-write-out-2 c = simp length-set (omega arith)
+
+array-read-out-3 : tie.Need-array-read-out-3
+array-read-out-3 c = search needs
 
 slice-write-out-3 : tie.Need-slice-write-out-3
 slice-write-out-3 c = simp length-set (omega arith)
@@ -37,7 +46,7 @@ returns : tie.Need-returns
 returns c =
     let v = c .before .args .version in
     let high : v / 256 ≡ v / 256 % 256 = omega arith in
-    rw high (header-stored _ _ _ v (now (c .before .args .out)) (c .if1 .taken))
+    rw high (header-stored _ v (now (c .before .args .out)) (c .if1 .taken))
 
 returns-2 : tie.Need-returns-2
 returns-2 c = sym (put-short _ _ (rw length-header (c .if1 .left)))
@@ -46,8 +55,11 @@ pub encode-header-spec : {M : Type 1} → statement M
 encode-header-spec =
     tie.close
     (tie.spec
+    array-read-out
     slice-write-out
+    array-read-out-2
     slice-write-out-2
+    array-read-out-3
     slice-write-out-3
     cast-out
     slice-write-out-4

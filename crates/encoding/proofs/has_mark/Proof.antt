@@ -11,6 +11,9 @@ returns c = rw (lt-leb 3 _ (c .if1 .taken))
 shared-slice-read-if2 : tie.Need-shared-slice-read-if2
 shared-slice-read-if2 c = search needs
 
+array-read-if2 : tie.Need-array-read-if2
+array-read-if2 c = search needs
+
 returns-2 : tie.Need-returns-2
 unfolding hasMark
 returns-2 c = rw (le-leb 3 _ (c .before .before .if1 .left), ne-eqb _ _ (c .if2 .taken))
@@ -18,12 +21,18 @@ returns-2 c = rw (le-leb 3 _ (c .before .before .if1 .left), ne-eqb _ _ (c .if2 
 shared-slice-read-if3 : tie.Need-shared-slice-read-if3
 shared-slice-read-if3 c = search needs
 
+array-read-if3 : tie.Need-array-read-if3
+array-read-if3 c = search needs
+
 returns-3 : tie.Need-returns-3
 unfolding hasMark
 returns-3 c = rw (le-leb 3 _ (c .before .before .before .before .if1 .left), eq-eqb _ _ (c .before .before .if2 .left), ne-eqb _ _ (c .if3 .taken))
 
 shared-slice-read-result : tie.Need-shared-slice-read-result
 shared-slice-read-result c = search needs
+
+array-read-result : tie.Need-array-read-result
+array-read-result c = search needs
 
 returns-4 : tie.Need-returns-4
 unfolding hasMark
@@ -35,8 +44,11 @@ has-mark-spec =
     (tie.spec
     returns
     shared-slice-read-if2
+    array-read-if2
     returns-2
     shared-slice-read-if3
+    array-read-if3
     returns-3
     shared-slice-read-result
+    array-read-result
     returns-4)

@@ -8,7 +8,7 @@ use Rattle.scheme.specs.Scheme.{keyElement}
 use Rattle.records.specs.declared.Refusal.the-variants.{NotInvertible, StreamExhausted}
 use Rattle.records.specs.declared.Answer.the-variants.{Done}
 use Rattle.records.specs.Answers.{unless, andThen}
-use Rattle.calls.specs.Calls.{keygenB, generatedAnswer}
+use Rattle.keys.specs.Keys.{keygenB, generatedAnswer}
 use Rattle.keys.proofs.Equal.{ap-three}
 use borrow.Author.Needs.{needs}
 use Rattle.keys.proofs.generate.Statement.{statement}

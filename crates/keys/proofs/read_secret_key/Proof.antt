@@ -1,3 +1,6 @@
+use denote.Ref.{now}
+use Rattle.records.specs.Layout.{secretKeyMark}
+use Rattle.records.proofs.Checks.{front-checked}
 use mathlib.Core.Path.{ap, ap₂, _∙_}
 use mathlib.Core.List.{List}
 use Prim.Native.Nat.{ℕ}
@@ -5,7 +8,7 @@ use Rattle.ntt.specs.Spectrum.{spectrumOf}
 use Rattle.ring.specs.Invertible.{inverseOf}
 use Rattle.scheme.specs.Answers.{keyCheck}
 use Rattle.records.specs.Answers.{andThen}
-use Rattle.calls.specs.Calls.{verdictAnswer, secretAnswer}
+use Rattle.keys.specs.Keys.{verdictAnswer, secretAnswer}
 use Rattle.keys.proofs.Equal.{ap-three}
 use borrow.Author.Needs.{needs}
 use Rattle.keys.proofs.read_secret_key.Statement.{statement}
@@ -13,6 +16,9 @@ use Rattle.keys.proofs.read_secret_key.Tie as tie
 
 read-record-requires : tie.Need-read-record-requires
 read-record-requires c κs = search needs
+
+front-answer-requires : tie.Need-front-answer-requires
+front-answer-requires c κs = search needs
 
 sub-check-codes : tie.Need-sub-check-codes
 sub-check-codes c = search needs
@@ -53,22 +59,22 @@ and-then-requires-2 c κs = search needs
 returns : tie.Need-returns
 unfolding secretAnswer
 returns c =
-    let made = c .before .before .before in
+    let made = c .before .before .before .before in
     let decoded = made .before in
-    let read = decoded .before .before .before .before .before .before .read-record .ensures in
-    let a = read .1 .0 in
-    let b = read .1 .1 in
+    let checked = decoded .before .before .before .before .before .before in
+    let (header, ((a, b), places)) = checked .before .read-record .ensures in
+    let front = front-checked secretKeyMark 1 (now (checked .before .before .before .before .before .args .bytes)) header places (checked .front-answer .ensures) in
     let s = decoded .decode-ternary .ensures in
     let key = made .secret-key .ensures in
-    let check = key .1 .1 ∙ ap-three keyCheck a b s in (
+    let check = key .0 ∙ ap-three keyCheck a b s in (
       c .and-then2 .ensures
-          ∙ ap₂ andThen (read .0)
+          ∙ ap₂ andThen front
           (c .before .and-then .ensures ∙ ap₂ andThen (decoded .before .before .check-codes .ensures) (c .before .before .verdict-answer .ensures ∙ ap verdictAnswer check)),
       record {
-        a-spectrum = key .0 .0 ∙ ap spectrumOf a;
-        b-spectrum = key .0 .1 ∙ ap spectrumOf b;
-        s-spectrum = key .0 .2 ∙ ap spectrumOf s;
-        inverse-spectrum = key .1 .0 ∙ ap (λ (x : List ℕ). spectrumOf (inverseOf x)) b;
+        a-spectrum = key .1 .0 .0 ∙ ap spectrumOf a;
+        b-spectrum = key .1 .0 .1 ∙ ap spectrumOf b;
+        s-spectrum = key .1 .0 .2 ∙ ap spectrumOf s;
+        inverse-spectrum = key .1 .1 ∙ ap (λ (x : List ℕ). spectrumOf (inverseOf x)) b;
       },
     )
 
@@ -77,6 +83,7 @@ read-secret-key-spec =
     tie.close
     (tie.spec
     read-record-requires
+    front-answer-requires
     sub-check-codes
     part-check-codes-start
     part-check-codes-end

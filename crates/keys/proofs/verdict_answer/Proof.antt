@@ -1,5 +1,5 @@
 use mathlib.Core.Path.{sym, ap}
-use Rattle.calls.specs.Calls.{verdictAnswer}
+use Rattle.keys.specs.Keys.{verdictAnswer}
 use borrow.Author.Needs.{needs}
 use Rattle.keys.proofs.verdict_answer.Statement.{statement}
 use Rattle.keys.proofs.verdict_answer.Tie as tie

@@ -1,7 +1,7 @@
 use mathlib.Core.Path.{ap, _∙_}
 use Rattle.records.specs.Answers.{number}
 use denote.Ref.{now}
-use Rattle.polka.proofs.Laws.{check-promise}
+use Rattle.calls.proofs.Promised.{check-promise}
 use borrow.Author.Needs.{needs}
 use Rattle.polka.proofs.polka_check_secret_key.Statement.{statement}
 use Rattle.polka.proofs.polka_check_secret_key.Tie as tie

@@ -1,7 +1,7 @@
 use mathlib.Core.Path.{ap, _∙_}
 use Rattle.records.specs.Answers.{number}
 use denote.Ref.{now}
-use Rattle.polka.proofs.Laws.{decapsulate-promise}
+use Rattle.calls.proofs.Promised.{decapsulate-promise}
 use borrow.Author.Needs.{needs}
 use Rattle.polka.proofs.polka_decapsulate.Statement.{statement}
 use Rattle.polka.proofs.polka_decapsulate.Tie as tie

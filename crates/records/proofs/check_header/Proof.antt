@@ -17,7 +17,7 @@ returns : tie.Need-returns
 returns c =
     let at = c .before in
     let args = at .before .before .args in
-    wrong-mark (args .m0) (args .m1) (args .m2) (now (args .bytes)) (sym (at .has-mark .ensures) ∙ not-true (at .has-mark .result) (c .if1 .taken))
+    wrong-mark (args .mark) (args .version) (now (args .bytes)) (sym (at .has-mark .ensures) ∙ not-true (at .has-mark .result) (c .if1 .taken))
 
 version-requires : tie.Need-version-requires
 version-requires c κs = search needs
@@ -26,17 +26,17 @@ returns-2 : tie.Need-returns-2
 returns-2 c =
     let at = c .before .before .before in
     let args = at .before .before .args in
-    wrong-version (args .m0) (args .m1) (args .m2) (now (args .bytes))
+    wrong-version (args .mark) (args .version) (now (args .bytes))
     (sym (at .has-mark .ensures) ∙ not-false (at .has-mark .result) (c .before .before .if1 .left))
-    (ap (λ (v : ℕ). eqb v 1) (sym (c .before .version .ensures)) ∙ ne-eqb (c .before .version .result) 1 (c .if2 .taken))
+    (ap (λ (v : ℕ). eqb v (args .version)) (sym (c .before .version .ensures)) ∙ ne-eqb (c .before .version .result) (args .version) (c .if2 .taken))
 
 returns-3 : tie.Need-returns-3
 returns-3 c =
     let at = c .before .before .before in
     let args = at .before .before .args in
-    header-done (args .m0) (args .m1) (args .m2) (now (args .bytes))
+    header-done (args .mark) (args .version) (now (args .bytes))
     (sym (at .has-mark .ensures) ∙ not-false (at .has-mark .result) (c .before .before .if1 .left))
-    (ap (λ (v : ℕ). eqb v 1) (sym (c .before .version .ensures)) ∙ eq-eqb (c .before .version .result) 1 (c .if2 .left))
+    (ap (λ (v : ℕ). eqb v (args .version)) (sym (c .before .version .ensures)) ∙ eq-eqb (c .before .version .result) (args .version) (c .if2 .left))
 
 pub check-header-spec : {M : Type 1} → statement M
 check-header-spec =

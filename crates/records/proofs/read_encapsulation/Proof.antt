@@ -1,5 +1,5 @@
-use mathlib.Core.Path.{ap₂, _∙_}
-use Rattle.records.specs.Records.{elementsAnswer, encapsulationAnswer}
+use mathlib.Core.Path.{refl, ap, _∙_}
+use Rattle.encoding.specs.Words.{firstUnreduced}
 use borrow.Author.Needs.{needs}
 use Rattle.records.proofs.read_encapsulation.Statement.{statement}
 use Rattle.records.proofs.read_encapsulation.Tie as tie
@@ -28,15 +28,20 @@ part-decode-element-end-2 c = search needs
 decode-element-requires-2 : tie.Need-decode-element-requires-2
 decode-element-requires-2 c κs = search needs
 
-check-elements-requires : tie.Need-check-elements-requires
-check-elements-requires c κs = search needs
+first-unreduced-requires : tie.Need-first-unreduced-requires
+first-unreduced-requires c κs = search needs
+
+first-unreduced-requires-2 : tie.Need-first-unreduced-requires-2
+first-unreduced-requires-2 c κs = search needs
 
 returns : tie.Need-returns
-unfolding encapsulationAnswer
 returns c =
-    let first = c .before .before .before .decode-element .ensures in
-    let second = c .before .decode-element2 .ensures in
-    (c .check-elements .ensures ∙ ap₂ elementsAnswer first second, (first, second))
+    let read = c .before .before in
+    let first = read .before .before .decode-element .ensures in
+    let second = read .decode-element2 .ensures in (
+      refl,
+      ((first, second), (c .before .first-unreduced .ensures ∙ ap firstUnreduced first, c .first-unreduced2 .ensures ∙ ap firstUnreduced second)),
+    )
 
 pub read-encapsulation-spec : {M : Type 1} → statement M
 read-encapsulation-spec =
@@ -50,5 +55,6 @@ read-encapsulation-spec =
     part-decode-element-start-2
     part-decode-element-end-2
     decode-element-requires-2
-    check-elements-requires
+    first-unreduced-requires
+    first-unreduced-requires-2
     returns)

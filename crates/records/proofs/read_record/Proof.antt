@@ -1,6 +1,5 @@
-use mathlib.Core.Path.{ap₂, _∙_}
-use Rattle.records.specs.Answers.{andThen}
-use Rattle.records.specs.Records.{elementsAnswer, recordAnswer}
+use mathlib.Core.Path.{ap, _∙_}
+use Rattle.encoding.specs.Words.{firstUnreduced}
 use borrow.Author.Needs.{needs}
 use Rattle.records.proofs.read_record.Statement.{statement}
 use Rattle.records.proofs.read_record.Tie as tie
@@ -32,20 +31,19 @@ decode-element-requires-2 c κs = search needs
 check-header-requires : tie.Need-check-header-requires
 check-header-requires c κs = search needs
 
-check-elements-requires : tie.Need-check-elements-requires
-check-elements-requires c κs = search needs
+first-unreduced-requires : tie.Need-first-unreduced-requires
+first-unreduced-requires c κs = search needs
 
-and-then-requires : tie.Need-and-then-requires
-and-then-requires c κs = search needs
+first-unreduced-requires-2 : tie.Need-first-unreduced-requires-2
+first-unreduced-requires-2 c κs = search needs
 
 returns : tie.Need-returns
-unfolding recordAnswer
 returns c =
     let read = c .before .before .before in
     let first = read .before .before .decode-element .ensures in
     let second = read .decode-element2 .ensures in (
-      c .and-then .ensures ∙ ap₂ andThen (c .before .before .check-header .ensures) (c .before .check-elements .ensures ∙ ap₂ elementsAnswer first second),
-      (first, second),
+      c .before .before .check-header .ensures,
+      ((first, second), (c .before .first-unreduced .ensures ∙ ap firstUnreduced first, c .first-unreduced2 .ensures ∙ ap firstUnreduced second)),
     )
 
 pub read-record-spec : {M : Type 1} → statement M
@@ -61,6 +59,6 @@ read-record-spec =
     part-decode-element-end-2
     decode-element-requires-2
     check-header-requires
-    check-elements-requires
-    and-then-requires
+    first-unreduced-requires
+    first-unreduced-requires-2
     returns)

@@ -8,6 +8,7 @@ use Rattle.encoding.specs.Header.{header}
 use Rattle.encoding.specs.Words.{elementBytes}
 use Rattle.encoding.proofs.Words.{length-elementBytes}
 use Rattle.encoding.proofs.Headers.{length-header}
+use Rattle.records.specs.Layout.{thirdPlace}
 use Rattle.records.specs.Records.{recordBytes}
 use Rattle.encoding.proofs.Buffers.{put-first, put-part}
 use borrow.Author.Needs.{needs}
@@ -59,11 +60,11 @@ returns c =
     let start = c .before .before .before .before .before .before .before .before .before .before .before .before .before in
     let args = start .args in
     let old = now (args .out) in
-    let h = header (args .m0) (args .m1) (args .m2) 1 in
+    let h = header (args .mark) (args .version) in
     let x = elementBytes (args .first) in
     let y = elementBytes (args .second) in
-    let room : 4101 ≤ length old = start .pre in
-    let sh : length h ≡ 5 = length-header (args .m0) (args .m1) (args .m2) 1 in
+    let room : thirdPlace ≤ length old = start .pre in
+    let sh : length h ≡ 5 = length-header (args .mark) (args .version) in
     let sx : length x ≡ 2048 = length-elementBytes (args .first) in
     let sy : length y ≡ 2048 = length-elementBytes (args .second) in
     let shx : length (h ++ x) ≡ 2053 = omega (arith, length-append h x) in

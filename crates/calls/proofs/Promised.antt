@@ -1,0 +1,22 @@
+-- Demand 3 of what a call said and wrote, where that is what its definition gives.
+use mathlib.Core.Path.{_≡_}
+use mathlib.Core.List.{List}
+use Prim.Native.Nat.{ℕ}
+use lib.ListN.{length}
+use Rattle.records.specs.Answers.{number}
+use Rattle.calls.specs.Calls.{checkAnswer, decapsulateAnswer, decapsulateOut, openAnswer, openOut}
+use Rattle.calls.specs.Promises.{CheckExact, DecapsulateExact, OpenExact}
+use Rattle.calls.proofs.CheckExact.{check-exact}
+use Rattle.calls.proofs.DecapsulateExact.{decapsulate-exact}
+use Rattle.calls.proofs.OpenExact.{open-exact}
+
+pub check-promise : (k : List ℕ) {n : ℕ} → n ≡ number (checkAnswer k) → CheckExact k n
+check-promise k e = rw e (check-exact k)
+
+pub decapsulate-promise : (k c d before : List ℕ) {n : ℕ} {after : List ℕ} → n ≡ number (decapsulateAnswer k c d (length before))
+    → after ≡ decapsulateOut k c d before → DecapsulateExact k c d before n after
+decapsulate-promise k c d before en ea = rw (en, ea) (decapsulate-exact k c d before)
+
+pub open-promise : (k e noise before : List ℕ) {n : ℕ} {after : List ℕ} → n ≡ number (openAnswer k e noise (length before))
+    → after ≡ openOut k e noise before → OpenExact k e noise before n after
+open-promise k e noise before en ea = rw (en, ea) (open-exact k e noise before)

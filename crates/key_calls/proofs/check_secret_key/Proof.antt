@@ -1,0 +1,56 @@
+use mathlib.Core.Path.{_≡_, sym, ap, _∙_}
+use mathlib.Core.Bool.{Bool}
+use denote.Ref.{now}
+use lib.Dec.{eqb}
+use lib.ListN.{length}
+use borrow.Author.Tests.{eq-eqb, ne-eqb}
+use Rattle.records.specs.declared.Refusal.the-variants.{WrongLength}
+use Rattle.records.specs.Answers.{number, unless}
+use Rattle.keys.specs.Keys.{secretAnswer}
+use Rattle.calls.specs.Calls.{checkAnswer}
+use Rattle.calls.proofs.Promised.{check-promise}
+use borrow.Author.Needs.{needs}
+use Rattle.key_calls.proofs.check_secret_key.Statement.{statement}
+use Rattle.key_calls.proofs.check_secret_key.Tie as tie
+
+returns : tie.Need-returns
+unfolding checkAnswer
+returns c =
+    let k = now (c .before .before .args .key) in
+    let answer = sym (ap (λ (b : Bool). unless b WrongLength (secretAnswer k)) (ne-eqb (length k) 4357 (c .if1 .taken))) in
+    (answer, check-promise k (ap number answer))
+
+forward-factors-requires : tie.Need-forward-factors-requires
+forward-factors-requires c κs = search needs
+
+backward-factors-requires : tie.Need-backward-factors-requires
+backward-factors-requires c κs = search needs
+
+slice-aggregate-read-secret-key : tie.Need-slice-aggregate-read-secret-key
+slice-aggregate-read-secret-key c = search needs
+
+slice-aggregate-read-secret-key-2 : tie.Need-slice-aggregate-read-secret-key-2
+slice-aggregate-read-secret-key-2 c = search needs
+
+read-secret-key-requires : tie.Need-read-secret-key-requires
+read-secret-key-requires c κs = search needs
+
+returns-2 : tie.Need-returns-2
+unfolding checkAnswer
+returns-2 c =
+    let left = c .before .before .before .before .before in
+    let k = now (left .before .before .args .key) in
+    let answer = c .read-secret-key .ensures .0 ∙ sym (ap (λ (b : Bool). unless b WrongLength (secretAnswer k)) (eq-eqb (length k) 4357 (left .if1 .left))) in
+    (answer, check-promise k (ap number answer))
+
+pub check-secret-key-spec : {M : Type 1} → statement M
+check-secret-key-spec =
+    tie.close
+    (tie.spec
+    returns
+    forward-factors-requires
+    backward-factors-requires
+    slice-aggregate-read-secret-key
+    slice-aggregate-read-secret-key-2
+    read-secret-key-requires
+    returns-2)

@@ -1,0 +1,75 @@
+// The calls that make and check keys. Buffers may have any length; under any answer but Done every output is as it came.
+use ntt::Element;
+use records::Answer;
+use records::PUBLIC_KEY_LENGTH;
+use records::Refusal;
+use records::SECRET_KEY_LENGTH;
+use sampling::NOISE_LENGTH;
+use sampling::STREAM_LENGTH;
+ghost use mathlib.Core.Path.{_≡_};
+ghost use lib.ListN.{length};
+ghost use Rattle.records.specs.Answers.{number, onDone};
+ghost use Rattle.records.specs.Layout.{publicKeyLength, secretKeyLength};
+ghost use Rattle.records.specs.Records.{publicKeyBytes, secretKeyBytes};
+ghost use Rattle.calls.specs.Calls.{checkAnswer, keygenAnswer, keygenPublic, keygenSecret};
+ghost use Rattle.calls.specs.Promises.{CheckExact};
+
+// ---- check_secret_key
+
+// The key check.
+pub fn check_secret_key(key: &[u8]) -> Answer
+    ensures { λ a. ⌜ a ≡ checkAnswer (now (key .entry)) ⌝ }
+    ensures { λ a. ⌜ CheckExact (now (key .entry)) (number a) ⌝ }
+{
+    if key.len() != SECRET_KEY_LENGTH {
+        return Answer::Refused(Refusal::WrongLength);
+    }
+    let forward = ntt::forward_factors();
+    let backward = ntt::backward_factors();
+    let read = keys::read_secret_key(key, &forward, &backward);
+    read.answer
+}
+
+// ---- keygen
+
+fn write_public_key(answer: Answer, a: Element, b: Element, out: &mut [u8])
+    requires { ⌜ length (now out) ≡ publicKeyLength ⌝ }
+    ensures { λ _. ⌜ now (out .exit) ≡ onDone answer (publicKeyBytes a b) (now (out .entry)) ⌝ }
+{
+    if let Answer::Done = answer {
+        records::write_public_key(a, b, out);
+    }
+}
+
+fn write_secret_key(answer: Answer, a: Element, b: Element, s: Element, out: &mut [u8])
+    requires { ⌜ length (now out) ≡ secretKeyLength ⌝ }
+    ensures { λ _. ⌜ now (out .exit) ≡ onDone answer (secretKeyBytes a b s) (now (out .entry)) ⌝ }
+{
+    if let Answer::Done = answer {
+        records::write_secret_key(a, b, s, out);
+    }
+}
+
+// Key generation, which tries once, from a stream and the noise of s and of e.
+pub fn keygen(stream: &[u8], s: &[u8], e: &[u8], public: &mut [u8], secret: &mut [u8]) -> Answer
+    ensures { λ a. ⌜ a ≡ keygenAnswer (now (stream .entry)) (now (s .entry)) (now (e .entry)) (length (now (public .entry))) (length (now (secret .entry))) ⌝ }
+    ensures { λ _. ⌜ now (public .exit) ≡ keygenPublic (now (stream .entry)) (now (s .entry)) (now (e .entry)) (now (public .entry)) (now (secret .entry)) ⌝ }
+    ensures { λ _. ⌜ now (secret .exit) ≡ keygenSecret (now (stream .entry)) (now (s .entry)) (now (e .entry)) (now (public .entry)) (now (secret .entry)) ⌝ }
+{
+    let fits = (stream.len() == STREAM_LENGTH)
+        & (s.len() == NOISE_LENGTH)
+        & (e.len() == NOISE_LENGTH)
+        & (public.len() == PUBLIC_KEY_LENGTH)
+        & (secret.len() == SECRET_KEY_LENGTH);
+    if !fits {
+        return Answer::Refused(Refusal::WrongLength);
+    }
+    let g = keys::generate(stream, s, e);
+    let answer = g.answer;
+    let a = g.a;
+    let b = g.b;
+    let t = g.s;
+    write_public_key(answer, a, b, public);
+    write_secret_key(answer, a, b, t, secret);
+    answer
+}

@@ -1,0 +1,103 @@
+-- The checks of a key: when they say Done, and when 6.
+use mathlib.Core.Path.{_≡_, refl, sym, _∙_}
+use mathlib.Core.Bool.{Bool, true, false, decide, decide-iff, not-eq-not, true≢false, false≢true}
+use mathlib.Core.Logic.{_↔_, Iff·trans, Iff·and}
+use mathlib.Core.List.{List}
+use Prim.Native.Nat.{ℕ}
+use native.Mathlib.Omega.{arith}
+use lib.Dec.{eqb}
+use lib.ListN.{length}
+use Rattle.ring.specs.Ring.{Invertible}
+use Rattle.ring.specs.Invertible.{invertible?}
+use Rattle.scheme.specs.Answers.{verdict}
+use Rattle.scheme.proofs.Keys.{key-check}
+use Rattle.encoding.specs.Codes.{firstInvalidCode}
+use Rattle.sampling.specs.Stream.{taken}
+use Rattle.records.specs.declared.Refusal.the-variants as Refusal
+use Rattle.records.specs.declared.Answer.the-variants.{Done}
+use Rattle.records.specs.Answers.{number, unless}
+use Rattle.records.specs.Layout.{publicKeyMark, secretKeyMark}
+use Rattle.records.specs.Records.{firstOf, secondOf, codesPart, secretOf}
+use Rattle.keys.specs.Keys.{publicAnswer, verdictAnswer, secretAnswer, keygenB, generatedAnswer}
+use Rattle.records.specs.WellFormed.{WellFormedFront}
+use Rattle.keys.specs.Keys.{elementsOf, Matches}
+use Rattle.records.proofs.AnswerLaws.{not-done, unless-done, then-done, then-says, unless-refuses, unless-never, done-never}
+use Rattle.records.proofs.RecordLaws.{equal-done, record-done, codes-done, record-never, codes-never}
+
+-- ---- 6, where it is the last check
+
+pub inverse-done : (b : List ℕ) → (unless (decide (invertible? b)) Refusal.NotInvertible Done ≡ Done) ↔ Invertible b
+inverse-done b =
+    Iff·trans (unless-done (decide (invertible? b)) Refusal.NotInvertible Done)
+    (λ (found, e). decide-iff (invertible? b) .0 found, λ unit. (decide-iff (invertible? b) .1 unit, refl))
+
+none-decided : (b : List ℕ) → (decide (invertible? b) ≡ false) ↔ ¬ (Invertible b)
+none-decided b =
+    (λ e unit. false≢true (sym e ∙ decide-iff (invertible? b) .1 unit), λ none. not-eq-not .0 (λ e. none (decide-iff (invertible? b) .0 e)))
+
+pub inverse-refused : (b : List ℕ) → (number (unless (decide (invertible? b)) Refusal.NotInvertible Done) ≡ 6) ↔ ¬ (Invertible b)
+inverse-refused b = Iff·trans (unless-refuses (decide (invertible? b)) Refusal.NotInvertible) (none-decided b)
+
+-- ---- public keys
+
+pub public-done : (k : List ℕ) → (publicAnswer k ≡ Done) ↔ (WellFormedFront publicKeyMark 1 k × Invertible (secondOf k))
+unfolding publicAnswer
+public-done k = Iff·trans (then-done _ _) (Iff·and (record-done publicKeyMark 1 k) (inverse-done (secondOf k)))
+
+pub public-refused : (k : List ℕ) → (number (publicAnswer k) ≡ 6) ↔ (WellFormedFront publicKeyMark 1 k × ¬ (Invertible (secondOf k)))
+unfolding publicAnswer
+public-refused k =
+    Iff·trans (then-says _ (record-never (omega arith) publicKeyMark 1 k)) (Iff·and (record-done publicKeyMark 1 k) (inverse-refused (secondOf k)))
+
+-- ---- secret keys
+
+verdict-done : (invertible ternary : Bool) → (verdictAnswer (verdict invertible ternary) ≡ Done) ↔ ((invertible ≡ true) × (ternary ≡ true))
+verdict-done true true = (λ e. (refl, refl), λ e. refl)
+verdict-done true false = (λ e. absurd (not-done e), λ (i, t). absurd (false≢true t))
+verdict-done false t = (λ e. absurd (not-done e), λ (i, t). absurd (false≢true i))
+
+pub secret-done : (k : List ℕ)
+    → (secretAnswer k ≡ Done) ↔ (WellFormedFront secretKeyMark 1 k × (firstInvalidCode (codesPart k) ≡ 1024) × Invertible (secondOf k) × Matches (elementsOf k))
+unfolding secretAnswer
+secret-done k = (
+  λ e.
+      let (front, behind) = then-done _ _ .0 e in
+      let (codes, checked) = then-done _ _ .0 behind in
+      let w : WellFormedFront secretKeyMark 1 k = record-done secretKeyMark 1 k .0 front in
+      let (unit, matches) = key-check (firstOf k) (secondOf k) (secretOf k) (w .second-words) .0 (verdict-done _ _ .0 checked) in
+      (w, codes-done (codesPart k) .0 codes, unit, matches),
+  λ (w, codes, unit, matches).
+      let sound = key-check (firstOf k) (secondOf k) (secretOf k) (w .second-words) .1 (unit, matches) in
+      then-done _ _ .1 (record-done secretKeyMark 1 k .1 w, then-done _ _ .1 (codes-done (codesPart k) .1 codes, verdict-done _ _ .1 sound)),
+)
+
+verdict-refused : (invertible ternary : Bool) → (number (verdictAnswer (verdict invertible ternary)) ≡ 6) ↔ (invertible ≡ false)
+verdict-refused true true = (λ e. absurd (omega arith), λ e. absurd (true≢false e))
+verdict-refused true false = (λ e. absurd (omega arith), λ e. absurd (true≢false e))
+verdict-refused false t = (λ e. refl, λ e. refl)
+
+pub secret-refused : (k : List ℕ)
+    → (number (secretAnswer k) ≡ 6) ↔ (WellFormedFront secretKeyMark 1 k × (firstInvalidCode (codesPart k) ≡ 1024) × ¬ (Invertible (secondOf k)))
+unfolding secretAnswer
+secret-refused k =
+    Iff·trans
+    (Iff·trans (then-says _ (record-never (omega arith) secretKeyMark 1 k))
+    (Iff·and (record-done secretKeyMark 1 k)
+    (Iff·trans (then-says _ (codes-never (omega arith) (codesPart k)))
+    (Iff·and (codes-done (codesPart k)) (Iff·trans (verdict-refused _ _) (none-decided (secondOf k)))))))
+    (λ (w, (codes, none)). (w, codes, none), λ (w, codes, none). (w, (codes, none)))
+
+-- ---- key generation
+
+pub generated-done : (stream s e : List ℕ) → (generatedAnswer stream s e ≡ Done) ↔ ((length (taken stream) ≡ 1024) × Invertible (keygenB stream s e))
+unfolding generatedAnswer
+generated-done stream s e =
+    Iff·trans (then-done _ _) (Iff·and (equal-done (length (taken stream)) 1024 Refusal.StreamExhausted) (inverse-done (keygenB stream s e)))
+
+pub generated-refused : (stream s e : List ℕ)
+    → (number (generatedAnswer stream s e) ≡ 6) ↔ ((length (taken stream) ≡ 1024) × ¬ (Invertible (keygenB stream s e)))
+unfolding generatedAnswer
+generated-refused stream s e =
+    let enough = eqb (length (taken stream)) 1024 in
+    Iff·trans (then-says _ (unless-never enough Refusal.StreamExhausted (λ (e : 8 ≡ 6). omega arith) (done-never (omega arith))))
+    (Iff·and (equal-done (length (taken stream)) 1024 Refusal.StreamExhausted) (inverse-refused (keygenB stream s e)))

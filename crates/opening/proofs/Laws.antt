@@ -1,0 +1,118 @@
+-- A key as it was prepared, and what an outcome makes of answer and output.
+use mathlib.Core.Path.{_≡_, refl, ap, ap₂, _∙_}
+use mathlib.Core.Bool.{Bool, true, false, cond}
+use mathlib.Core.List.{List}
+use Prim.Native.Nat.{ℕ}
+use lib.ListN.{length}
+use Rattle.lists.specs.Table.{zeros}
+use Rattle.ntt.specs.Spectrum.{spectrumOf, coefficientsOf}
+use Rattle.ring.specs.Ring.{n}
+use Rattle.ring.specs.Invertible.{inverseOf}
+use Rattle.ring.proofs.RingLaws.{length-inverse}
+use Rattle.scheme.specs.Scheme.{Triple, Outcome, found, failed, decapsulation}
+use Rattle.scheme.specs.Answers.{answer, opened}
+use Rattle.scheme.specs.declared.Triple as Declared
+use Rattle.scheme.specs.declared.Encapsulation.{Encapsulation}
+use Rattle.scheme.specs.declared.PreparedKey.{PreparedKey}
+use Rattle.scheme.proofs.Steps.{decapsulation-through}
+use Rattle.encoding.proofs.Words.{length-elementOf}
+use Rattle.encoding.proofs.Codes.{length-ternaryOf}
+use Rattle.records.specs.Triple.{tripleBytes}
+use Rattle.derivation.specs.Derivation.{genuine?, entryOf, verifiedEntry}
+use Rattle.records.specs.declared.Refusal.{Refusal}
+use Rattle.records.specs.declared.Refusal.the-variants.{DecapsulationFailure, TagMismatch}
+use Rattle.records.specs.declared.Answer.{Answer}
+use Rattle.records.specs.declared.Answer.the-variants.{Done, Refused}
+use Rattle.records.specs.Answers.{unless, andThen, onDone}
+use Rattle.calls.specs.Calls.{outcome, outcomeAnswer, outcomeBytes, openedAnswer, openedEntry}
+use Rattle.keys.specs.Keys.{KeyElements, elementsOf}
+use Rattle.keys.specs.Prepared.{Prepared}
+use Rattle.opening.specs.Parts.{asTriple, answered, decapsulatedBy, openedBy, verifiedBy}
+
+-- ---- decapsulation with a prepared key
+
+-- a, b and s have 1,024 coefficients, as what is read off bytes has
+pub record Sized (key : KeyElements) : Type 0 where
+  pub a-size : length (key .a) ≡ n
+  pub b-size : length (key .b) ≡ n
+  pub s-size : length (key .s) ≡ n
+
+pub read-sized : (k : List ℕ) → Sized (elementsOf k)
+read-sized k = record { a-size = length-elementOf _; b-size = length-elementOf _; s-size = length-ternaryOf _ }
+
+pub prepared-outcome : (key : KeyElements) (k : PreparedKey) (t : Declared.Triple) (c : Encapsulation) {dummy : Triple} {c1 c2 : List ℕ} → Sized key → Prepared key k
+    → asTriple t ≡ dummy → c .c1 ≡ c1 → c .c2 ≡ c2 → opened k t c ≡ outcome key dummy c1 c2
+unfolding outcome
+prepared-outcome key k t c {dummy} {c1} {c2} size p et e1 e2 =
+    ap₂ (λ (x y : List ℕ). decapsulation (coefficientsOf x) (coefficientsOf y) (coefficientsOf (k .inverse)) (coefficientsOf (k .s)) (asTriple t) (c .c1) (c .c2))
+    (p .a-spectrum) (p .b-spectrum)
+    ∙ ap₂ (λ (x y : List ℕ). decapsulation (coefficientsOf (spectrumOf a)) (coefficientsOf (spectrumOf b)) (coefficientsOf x) (coefficientsOf y) (asTriple t) (c .c1) (c .c2))
+    (p .inverse-spectrum) (p .s-spectrum)
+    ∙ decapsulation-through a b (inverseOf b) s (size .a-size) (size .b-size) (length-inverse b) (size .s-size) (asTriple t) (c .c1) (c .c2)
+    ∙ ap (λ (x : Triple). decapsulation a b (inverseOf b) s x (c .c1) (c .c2)) et
+    ∙ ap₂ (decapsulation a b (inverseOf b) s dummy) e1 e2
+  where
+    a : List ℕ
+    a = key .a
+
+    b : List ℕ
+    b = key .b
+
+    s : List ℕ
+    s = key .s
+
+-- ---- what an outcome makes of answer and output
+
+pub found-answer : (o : Outcome) → unless (answer o .found) DecapsulationFailure Done ≡ outcomeAnswer o
+found-answer (found t) = refl
+found-answer failed = refl
+
+pub found-triple : (o : Outcome) → asTriple (answer o .triple) ≡ answered o
+found-triple (found t) = refl
+found-triple failed = refl
+
+pub verified-answer : (o : Outcome) (body tag : List ℕ)
+    → andThen (outcomeAnswer o) (unless (genuine? (answered o .r) (answered o .e1) (answered o .e2) body tag) TagMismatch Done) ≡ openedAnswer o body tag
+verified-answer (found t) body tag = refl
+verified-answer failed body tag = refl
+
+-- ---- equal parts
+
+pub decapsulated-by : {key key′ words words′ codes codes′ : Answer} {o o′ : Outcome} → key ≡ key′ → words ≡ words′ → codes ≡ codes′ → o ≡ o′
+    → decapsulatedBy key words codes o ≡ decapsulatedBy key′ words′ codes′ o′
+decapsulated-by ek ew ec eo = ap₂ andThen ek (ap₂ andThen ew (ap₂ andThen ec (ap outcomeAnswer eo)))
+
+pub opened-by : {key key′ front front′ : Answer} {o o′ : Outcome} {body body′ tag tag′ : List ℕ} → key ≡ key′ → front ≡ front′ → o ≡ o′ → body ≡ body′ → tag ≡ tag′
+    → openedBy key front o body tag ≡ openedBy key′ front′ o′ body′ tag′
+opened-by {o = o} {o′} {body} {body′} {tag} ek ef eo eb et =
+    ap₂ andThen ek (ap₂ andThen ef (ap (λ (x : Outcome). openedAnswer x body tag) eo ∙ ap₂ (openedAnswer o′) eb et))
+
+pub verified-by : {o o′ : Outcome} {body body′ tag tag′ : List ℕ} → o ≡ o′ → body ≡ body′ → tag ≡ tag′ → verifiedBy o body tag ≡ verifiedBy o′ body′ tag′
+verified-by {o} {o′} {body} {body′} {tag} eo eb et = ap (λ (x : Outcome). verifiedBy x body tag) eo ∙ ap₂ (verifiedBy o′) eb et
+
+-- ---- what is written
+
+-- nothing follows a refusal
+refused-stays : (a : Answer) (r : Refusal) (new other old : List ℕ) → onDone (andThen a (Refused r)) new old ≡ onDone (andThen a (Refused r)) other old
+refused-stays Done r new other old = refl
+refused-stays (Refused s) r new other old = refl
+
+pub triple-written : (a b c : Answer) (o : Outcome) (old : List ℕ) → let answer = andThen a (andThen b (andThen c (outcomeAnswer o))) in
+    onDone answer (tripleBytes (answered o .r) (answered o .e1) (answered o .e2)) old ≡ onDone answer (outcomeBytes o) old
+triple-written a b c (found t) old = refl
+triple-written (Refused r) b c failed old = refl
+triple-written Done (Refused r) c failed old = refl
+triple-written Done Done c failed old = refused-stays c DecapsulationFailure _ _ old
+
+pub entry-written : (a b : Answer) (o : Outcome) (body tag old : List ℕ) → let answer = andThen a (andThen b (openedAnswer o body tag)) in
+    onDone answer (verifiedEntry (answered o .r) (answered o .e1) (answered o .e2) body tag) old ≡ onDone answer (openedEntry o body) old
+unfolding verifiedEntry
+entry-written (Refused r) b o body tag old = refl
+entry-written Done (Refused r) o body tag old = refl
+entry-written Done Done failed body tag old = refl
+entry-written Done Done (found t) body tag old = by (genuine? (t .r) (t .e1) (t .e2) body tag)
+  where
+    by : (g : Bool) → onDone (unless g TagMismatch Done) (cond g (entryOf (t .r) (t .e1) (t .e2) body) (zeros 16)) old
+        ≡ onDone (unless g TagMismatch Done) (entryOf (t .r) (t .e1) (t .e2) body) old
+    by true = refl
+    by false = refl

@@ -1,0 +1,73 @@
+use mathlib.Core.Path.{ap, ap₂, _∙_}
+use mathlib.Core.Bool.{Bool}
+use Rattle.scheme.specs.Scheme.{Triple}
+use Rattle.scheme.specs.declared.Decapsulation.{Decapsulation}
+use Rattle.derivation.specs.Derivation.{genuine?, verifiedEntry}
+use Rattle.records.specs.declared.Refusal.the-variants.{DecapsulationFailure, TagMismatch}
+use Rattle.records.specs.declared.Answer.the-variants.{Done}
+use Rattle.records.specs.Answers.{unless, andThen}
+use Rattle.opening.specs.Parts.{asTriple, outcomeBy}
+use Rattle.opening.proofs.Laws.{found-answer, found-triple, verified-answer}
+use borrow.Author.Needs.{needs}
+use Rattle.opening.proofs.recover_entry.Statement.{statement}
+use Rattle.opening.proofs.recover_entry.Tie as tie
+
+front-answer-requires : tie.Need-front-answer-requires
+front-answer-requires c κs = search needs
+
+decapsulate-requires : tie.Need-decapsulate-requires
+decapsulate-requires c κs = search needs
+
+unless-requires : tie.Need-unless-requires
+unless-requires c κs = search needs
+
+verify-requires : tie.Need-verify-requires
+verify-requires c κs = search needs
+
+unless-requires-2 : tie.Need-unless-requires-2
+unless-requires-2 c κs = search needs
+
+and-then-requires : tie.Need-and-then-requires
+and-then-requires c κs = search needs
+
+and-then-requires-2 : tie.Need-and-then-requires-2
+and-then-requires-2 c κs = search needs
+
+and-then-requires-3 : tie.Need-and-then-requires-3
+and-then-requires-3 c κs = search needs
+
+returns : tie.Need-returns
+returns c =
+    let verified = c .before .before .before .before .before in
+    let tested = verified .before .before .before .before .before in
+    let made = tested .before in
+    let read = made .before .before .before .before .before in
+    let args = read .before .before .before .before .before .args in
+    let body = args .sealed .body in
+    let tag = args .sealed .tag in
+    let o = outcomeBy (args .key) (args .dummy) (args .sealed .front) in
+    let found = made .decapsulate .ensures in
+    let t = ap (λ (d : Decapsulation). asTriple (d .triple)) found ∙ found-triple o in
+    let genuine = verified .verify .ensures .0 ∙ ap (λ (x : Triple). genuine? (x .r) (x .e1) (x .e2) body tag) t in
+    let first = tested .unless .ensures ∙ ap (λ (d : Decapsulation). unless (d .found) DecapsulationFailure Done) found ∙ found-answer o in
+    let second = c .before .before .before .before .unless2 .ensures ∙ ap (λ (x : Bool). unless x TagMismatch Done) genuine in (
+      c .and-then3 .ensures
+          ∙ ap (andThen (args .key .answer))
+          (c .before .and-then2 .ensures
+          ∙ ap₂ andThen (read .front-answer .ensures) (c .before .before .and-then .ensures ∙ ap₂ andThen first second ∙ verified-answer o body tag)),
+      verified .verify .ensures .1 ∙ ap (λ (x : Triple). verifiedEntry (x .r) (x .e1) (x .e2) body tag) t,
+    )
+
+pub recover-entry-spec : {M : Type 1} → statement M
+recover-entry-spec =
+    tie.close
+    (tie.spec
+    front-answer-requires
+    decapsulate-requires
+    unless-requires
+    verify-requires
+    unless-requires-2
+    and-then-requires
+    and-then-requires-2
+    and-then-requires-3
+    returns)

@@ -1,0 +1,110 @@
+-- Laws of answers: what a chain of checks says.
+use mathlib.Core.Path.{_≡_, refl, sym, ap}
+use mathlib.Core.Bool.{Bool, true, false, true≢false, false≢true}
+use mathlib.Core.Logic.{_↔_}
+use mathlib.Core.List.{List}
+use Prim.Native.Nat.{ℕ, _<_}
+use native.Mathlib.Omega.{arith}
+use Rattle.records.specs.declared.Refusal.{Refusal}
+use Rattle.records.specs.declared.Refusal.the-variants.{WrongLength, WrongMark, WrongVersion, CoefficientOutOfRange, InvalidCode}
+use Rattle.records.specs.declared.Refusal.the-variants.{NotInvertible, KeyMismatch, StreamExhausted, DecapsulationFailure, TagMismatch}
+use Rattle.records.specs.declared.Answer.{Answer}
+use Rattle.records.specs.declared.Answer.the-variants.{Done, Refused}
+use Rattle.records.specs.Answers.{refusalNumber, number, unless, andThen, onDone}
+
+-- ---- 0 is Done
+
+pub refusal-positive : (r : Refusal) → 0 < refusalNumber r
+refusal-positive WrongLength = omega arith
+refusal-positive WrongMark = omega arith
+refusal-positive WrongVersion = omega arith
+refusal-positive CoefficientOutOfRange = omega arith
+refusal-positive InvalidCode = omega arith
+refusal-positive NotInvertible = omega arith
+refusal-positive KeyMismatch = omega arith
+refusal-positive StreamExhausted = omega arith
+refusal-positive DecapsulationFailure = omega arith
+refusal-positive TagMismatch = omega arith
+
+refusal-not-zero : (r : Refusal) → ¬ (refusalNumber r ≡ 0)
+refusal-not-zero r e = omega (arith, refusal-positive r, e)
+
+pub not-done : {r : Refusal} → ¬ (Refused r ≡ Done)
+not-done {r} e = refusal-not-zero r (ap number e)
+
+pub number-done : (a : Answer) → (number a ≡ 0) ↔ (a ≡ Done)
+number-done a = (zero a, λ e. ap number e)
+  where
+    zero : (a : Answer) → number a ≡ 0 → a ≡ Done
+    zero Done e = refl
+    zero (Refused r) e = absurd (refusal-not-zero r e)
+
+-- ---- a chain of checks says Done exactly when each check does
+
+pub unless-done : (t : Bool) (r : Refusal) (a : Answer) → (unless t r a ≡ Done) ↔ ((t ≡ true) × (a ≡ Done))
+unless-done true r a = (λ e. (refl, e), λ (p, e). e)
+unless-done false r a = (λ e. absurd (not-done e), λ (p, e). absurd (false≢true p))
+
+pub then-done : (a b : Answer) → (andThen a b ≡ Done) ↔ ((a ≡ Done) × (b ≡ Done))
+then-done Done b = (λ e. (refl, e), λ (p, e). e)
+then-done (Refused r) b = (λ e. absurd (not-done e), λ (p, e). absurd (not-done p))
+
+-- ---- one check: it passes, or it refuses
+
+pub unless-passed : {t : Bool} (r : Refusal) (a : Answer) → t ≡ true → unless t r a ≡ a
+unless-passed r a e = rw e
+
+pub unless-failed : {t : Bool} (r : Refusal) (a : Answer) → t ≡ false → unless t r a ≡ Refused r
+unless-failed r a e = rw e
+
+pub then-passed : {a : Answer} (b : Answer) → a ≡ Done → andThen a b ≡ b
+then-passed b e = rw e
+
+pub then-failed : {a : Answer} {r : Refusal} (b : Answer) → a ≡ Refused r → andThen a b ≡ Refused r
+then-failed b e = rw e
+
+-- ---- a chain of checks says a number of its own
+
+-- the answer is not that of the number n
+pub record Never (n : ℕ) (a : Answer) : Type 0 where
+  pub never : ¬ (number a ≡ n)
+
+pub done-never : {n : ℕ} → 0 < n → Never n Done
+done-never h = record { never = λ e. omega arith }
+
+pub unless-never : {n : ℕ} (t : Bool) (r : Refusal) {a : Answer} → ¬ (refusalNumber r ≡ n) → Never n a → Never n (unless t r a)
+unless-never true r other rest = rest
+unless-never false r other rest = record { never = other }
+
+pub then-never : {n : ℕ} {a b : Answer} → Never n a → Never n b → Never n (andThen a b)
+then-never {a = Done} first rest = rest
+then-never {a = Refused r} first rest = first
+
+-- the number of a check that follows, and not of this one
+pub unless-says : (n : ℕ) (t : Bool) (r : Refusal) (a : Answer) → ¬ (refusalNumber r ≡ n)
+    → (number (unless t r a) ≡ n) ↔ ((t ≡ true) × (number a ≡ n))
+unless-says n true r a other = (λ e. (refl, e), λ (p, e). e)
+unless-says n false r a other = (λ e. absurd (other e), λ (p, e). absurd (false≢true p))
+
+pub then-says : {n : ℕ} {a : Answer} (b : Answer) → Never n a → (number (andThen a b) ≡ n) ↔ ((a ≡ Done) × (number b ≡ n))
+then-says {a = Done} b first = (λ e. (refl, e), λ (p, e). e)
+then-says {a = Refused r} b first = (λ e. absurd (first .never e), λ (p, e). absurd (not-done p))
+
+-- the number of this check, and not of those that follow
+pub unless-refuses : (t : Bool) (r : Refusal) → (number (unless t r Done) ≡ refusalNumber r) ↔ (t ≡ false)
+unless-refuses true r = (λ e. absurd (refusal-not-zero r (sym e)), λ p. absurd (true≢false p))
+unless-refuses false r = (λ e. refl, λ p. refl)
+
+pub then-refuses : {n : ℕ} (a : Answer) {b : Answer} → 0 < n → Never n b → (number (andThen a b) ≡ n) ↔ (number a ≡ n)
+then-refuses Done some rest = (λ e. absurd (rest .never e), λ e. absurd (omega arith))
+then-refuses (Refused r) some rest = (λ e. e, λ e. e)
+
+-- ---- outputs
+
+pub on-done : {a : Answer} (new old : List ℕ) → a ≡ Done → onDone a new old ≡ new
+on-done new old e = rw e
+
+-- under any other number no byte has changed
+pub on-refusal : (a : Answer) (new old : List ℕ) → ¬ (number a ≡ 0) → onDone a new old ≡ old
+on-refusal Done new old other = absurd (other refl)
+on-refusal (Refused r) new old other = refl

@@ -1,0 +1,60 @@
+-- The layout of the records of document 01 ("Bytes"): marks, lengths, and where each part starts.
+use mathlib.Core.List.{List, [], _∷_}
+use Prim.Native.Nat.{ℕ}
+pub use Rattle.encoding.specs.Header.{headerLength}
+pub use Rattle.encoding.specs.Words.{elementLength}
+pub use Rattle.encoding.specs.Codes.{ternaryLength}
+
+-- ---- marks
+
+-- "PDK"
+abbrev pub publicKeyMark : List ℕ
+publicKeyMark = 80 ∷ 68 ∷ 75 ∷ []
+
+-- "SDK"
+abbrev pub secretKeyMark : List ℕ
+secretKeyMark = 83 ∷ 68 ∷ 75 ∷ []
+
+-- "PLG"
+abbrev pub sealedEntryMark : List ℕ
+sealedEntryMark = 80 ∷ 76 ∷ 71 ∷ []
+
+-- ---- lengths
+
+abbrev pub publicKeyLength : ℕ
+publicKeyLength = 4101
+
+-- document 01's desk key
+abbrev pub secretKeyLength : ℕ
+secretKeyLength = 4357
+
+abbrev pub sealedEntryLength : ℕ
+sealedEntryLength = 4133
+
+-- document 01's bare capsule
+abbrev pub encapsulationLength : ℕ
+encapsulationLength = 4096
+
+abbrev pub tripleLength : ℕ
+tripleLength = 768
+
+-- an entry, a body, a tag
+abbrev pub blockLength : ℕ
+blockLength = 16
+
+-- ---- places, in a public key, a secret key and a sealed entry
+
+-- of a or c1, behind the header
+abbrev pub firstPlace : ℕ
+firstPlace = 5
+
+-- of b or c2
+abbrev pub secondPlace : ℕ
+secondPlace = 2053
+
+-- of what follows the elements: s of a secret key, the body of a sealed entry
+abbrev pub thirdPlace : ℕ
+thirdPlace = 4101
+
+abbrev pub tagPlace : ℕ
+tagPlace = 4117

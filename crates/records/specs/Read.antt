@@ -1,0 +1,9 @@
+-- What was read of a record.
+use Rattle.records.specs.declared.Answer.{Answer}
+use Rattle.records.specs.declared.Elements.{Elements}
+use Rattle.records.specs.Answers.{andThen}
+use Rattle.records.specs.Records.{elementsAnswer}
+
+-- 2, 3, then 4 of its front
+abbrev pub frontOf : Elements → Answer
+frontOf read = andThen (read .header) (elementsAnswer (read .unreduced .first) (read .unreduced .second))

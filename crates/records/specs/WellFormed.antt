@@ -1,0 +1,48 @@
+-- When the records of document 01 are well formed ("What the desk says"): the checks of a record's own bytes pass.
+use mathlib.Core.Path.{_≡_}
+use mathlib.Core.Bool.{true}
+use mathlib.Core.List.{List}
+use Prim.Native.Nat.{ℕ}
+use lib.ListN.{length}
+use Rattle.ring.specs.Ring.{n, Element}
+use Rattle.encoding.specs.Codes.{firstInvalidCode}
+use Rattle.encoding.specs.Header.{hasMark, versionOf}
+use Rattle.records.specs.Layout.{publicKeyMark, secretKeyMark, sealedEntryMark, publicKeyLength, secretKeyLength, sealedEntryLength, encapsulationLength, tripleLength}
+use Rattle.records.specs.Records.{firstOf, secondOf, codesPart, c1Of, c2Of}
+use Rattle.records.specs.Triple.{rPart, e1Part, e2Part}
+
+-- the front of a public key, a secret key and a sealed entry: mark, version, and every word below q
+pub record WellFormedFront (mark : List ℕ) (version : ℕ) (bytes : List ℕ) : Type 0 where
+  pub has-mark : hasMark mark bytes ≡ true
+  pub has-version : versionOf bytes ≡ version
+  pub first-words : Element (firstOf bytes)
+  pub second-words : Element (secondOf bytes)
+
+-- a public key, "PDK"
+pub record WellFormedPublicKey (k : List ℕ) : Type 0 where
+  pub size : length k ≡ publicKeyLength
+  pub front : WellFormedFront publicKeyMark 1 k
+
+-- a secret key, "SDK": no code of s is 3
+pub record WellFormedKey (k : List ℕ) : Type 0 where
+  pub size : length k ≡ secretKeyLength
+  pub front : WellFormedFront secretKeyMark 1 k
+  pub codes : firstInvalidCode (codesPart k) ≡ n
+
+-- a sealed entry, "PLG"
+pub record WellFormedEntry (sealed : List ℕ) : Type 0 where
+  pub size : length sealed ≡ sealedEntryLength
+  pub front : WellFormedFront sealedEntryMark 1 sealed
+
+-- an encapsulation: every word below q
+pub record WellFormedEncapsulation (c : List ℕ) : Type 0 where
+  pub size : length c ≡ encapsulationLength
+  pub c1-words : Element (c1Of c)
+  pub c2-words : Element (c2Of c)
+
+-- a triple: no code is 3
+pub record WellFormedTriple (t : List ℕ) : Type 0 where
+  pub size : length t ≡ tripleLength
+  pub r-codes : firstInvalidCode (rPart t) ≡ n
+  pub e1-codes : firstInvalidCode (e1Part t) ≡ n
+  pub e2-codes : firstInvalidCode (e2Part t) ≡ n

@@ -1,0 +1,2 @@
+-- Laws of sealing.
+pub mod Laws
