@@ -1,26 +1,36 @@
 // The referee's desk. Standard input is the secret key (4,357 bytes), the sealed entry (4,133) and 1,536 dummy bytes; one line
 // says the number and, where that is 0, the entry in hexadecimal.
-ghost use mathlib.Core.Path.{_≡_};
-ghost use lib.ListN.{length};
+use desk_line::INPUT_LENGTH;
 use libc::STDIN_FILENO;
 use libc::STDOUT_FILENO;
+ghost use mathlib.Core.Path.{_≡_};
+ghost use Prim.Native.Nat.{_+_, _≤_};
+ghost use lib.ListN.{length, take};
+ghost use Rattle.lists.specs.Table.{zeros};
+ghost use Rattle.text.specs.Text.{written};
+ghost use Rattle.desk_line.specs.Line.{inputLength, deskLine};
 
 // One byte more than the input has, so that longer input is told from input that fits, and an endless one ends.
-fn input_buffer() -> [u8; 10027]
-    ensures { λ r. ⌜ 10027 ≡ length r ⌝ }
+fn input_buffer() -> [u8; INPUT_LENGTH + 1]
+    ensures { λ r. ⌜ r ≡ zeros (inputLength + 1) ⌝ }
 {
-    [0; 10027]
+    [0; INPUT_LENGTH + 1]
 }
 
-fn print_line(input: &[u8]) {
-    let line = desk_line::line(input);
-    let bytes = line.bytes;
-    let length = line.length;
-    io::write_all(STDOUT_FILENO, &bytes[0..length]);
+// The line for the first n bytes of a buffer, which are what was read.
+fn line_of(buffer: &[u8], n: usize) -> desk_line::Text
+    requires { ⌜ n ≤ length (now buffer) ⌝ }
+    ensures { λ r. ⌜ r .bytes ≡ written (deskLine (take n (now (buffer .entry)))) (zeros 35) ⌝ }
+    ensures { λ r. ⌜ (r .length ≡ length (deskLine (take n (now (buffer .entry))))) × (r .length ≤ 35) ⌝ }
+{
+    desk_line::line(&buffer[0..n])
 }
 
 fn main() {
     let mut input = input_buffer();
     let n = io::read_full(STDIN_FILENO, &mut input);
-    print_line(&input[..n]);
+    let line = line_of(&input, n);
+    let bytes = line.bytes;
+    let length = line.length;
+    io::write_all(STDOUT_FILENO, &bytes[0..length]);
 }

@@ -1,42 +1,43 @@
 -- The line of the desk program (document 01, "The desk program"), as ASCII bytes.
-use mathlib.Core.Bool.{cond}
 use mathlib.Core.List.{List, [], _∷_, _++_}
-use Prim.Native.Nat.{ℕ, _+_, _/_, _%_}
-use lib.Dec.{eqb, ltb}
+use Prim.Native.Nat.{ℕ}
+use lib.Dec.{eqb}
 use lib.ListN.{length}
 use Rattle.lists.specs.Table.{zeros}
 use Rattle.hex.specs.Hex.{textOf}
+use Rattle.text.specs.Text.{decimal}
 use Rattle.records.specs.declared.Refusal.the-variants.{WrongLength}
 use Rattle.records.specs.declared.Answer.{Answer}
 use Rattle.records.specs.declared.Answer.the-variants.{Done, Refused}
 use Rattle.records.specs.Answers.{number, unless}
+use Rattle.records.specs.Layout.{secretKeyLength, sealedEntryLength, blockLength}
 use Rattle.records.specs.Records.{part}
+use Rattle.keys.specs.Keys.{tripleNoiseLength}
 use Rattle.calls.specs.Calls.{openAnswer, openOut}
 
 -- ---- the input: secret key, sealed entry, dummy noise
 
+abbrev pub inputLength : ℕ
+inputLength = 10026
+
 abbrev pub keyPart : List ℕ → List ℕ
-keyPart input = part 0 4357 input
+keyPart input = part 0 secretKeyLength input
 
 abbrev pub sealedPart : List ℕ → List ℕ
-sealedPart input = part 4357 4133 input
+sealedPart input = part 4357 sealedEntryLength input
 
 abbrev pub dummyPart : List ℕ → List ℕ
-dummyPart input = part 8490 1536 input
+dummyPart input = part 8490 tripleNoiseLength input
 
 -- 1 for an input of any other length
 unfoldable pub deskAnswer : List ℕ → Answer
-deskAnswer input = unless (eqb (length input) 10026) WrongLength (openAnswer (keyPart input) (sealedPart input) (dummyPart input) 16)
+deskAnswer input = unless (eqb (length input) inputLength) WrongLength (openAnswer (keyPart input) (sealedPart input) (dummyPart input) blockLength)
 
 -- what opening writes into 16 zeros; shown only under Done
 unfoldable pub deskEntry : List ℕ → List ℕ
-deskEntry input = openOut (keyPart input) (sealedPart input) (dummyPart input) (zeros 16)
+deskEntry input = openOut (keyPart input) (sealedPart input) (dummyPart input) (zeros blockLength)
 
 -- ---- the line
-
--- a number below 100 in decimal digits, with no zero in front
-abbrev pub decimal : ℕ → List ℕ
-decimal n = cond (ltb n 10) ((48 + n) ∷ []) ((48 + n / 10) ∷ (48 + n % 10) ∷ [])
 
 -- the entry in hexadecimal, or "-"
 abbrev pub shown : Answer → List ℕ → List ℕ
@@ -44,7 +45,7 @@ shown Done entry = textOf entry
 shown (Refused r) entry = 45 ∷ []
 
 -- the number, a space, a text and a line feed
-abbrev pub lineOf : ℕ → List ℕ → List ℕ
+abbrev pub lineOf : (n : ℕ) (text : List ℕ) → List ℕ
 lineOf n text = decimal n ++ (32 ∷ []) ++ text ++ (10 ∷ [])
 
 unfoldable pub deskLine : List ℕ → List ℕ

@@ -1,52 +1,63 @@
 // What the desk program prints, from what it read.
+use keys::TRIPLE_NOISE_LENGTH;
 use records::Answer;
+use records::BLOCK_LENGTH;
+use records::SEALED_ENTRY_LENGTH;
+use records::SECRET_KEY_LENGTH;
 ghost use mathlib.Core.Path.{_≡_};
 ghost use mathlib.Core.List.{[], _∷_};
-ghost use Prim.Native.Nat.{_<_, _≤_};
+ghost use Prim.Native.Nat.{_≤_, min};
 ghost use lib.ListN.{length};
 ghost use Rattle.lists.specs.Table.{zeros};
-ghost use Rattle.hex.specs.Hex.{textOf, written};
+ghost use Rattle.hex.specs.Hex.{textOf};
+ghost use Rattle.text.specs.Text.{written};
 ghost use Rattle.desk_line.specs.Line.{lineOf, deskLine};
+
+// Where the sealed entry and the dummy's noise start, behind the secret key, and where the noise ends.
+const SEALED: usize = SECRET_KEY_LENGTH;
+
+const DUMMY: usize = SEALED + SEALED_ENTRY_LENGTH;
+
+pub const INPUT_LENGTH: usize = DUMMY + TRIPLE_NOISE_LENGTH;
+
+// The longest line: a digit, a space, the digits of an entry and a line feed.
+const LINE_LENGTH: usize = 3 + 2 * BLOCK_LENGTH;
 
 // A text of at most 35 bytes: it stands at the front of `bytes`, with zeros behind it.
 pub struct Text {
-    pub bytes: [u8; 35],
+    pub bytes: [u8; LINE_LENGTH],
     pub length: usize,
 }
 
+// A number, a space, what is shown and a line feed, as far as there is room.
+fn line_of(n: u32, shown: &[u8]) -> Text
+    ensures { λ r. ⌜ r .bytes ≡ written (lineOf n (now (shown .entry))) (zeros 35) ⌝ }
+    ensures { λ r. ⌜ r .length ≡ min (length (lineOf n (now (shown .entry)))) 35 ⌝ }
+{
+    let mut bytes = [0u8; LINE_LENGTH];
+    let digits = text::put_decimal(&mut bytes, 0, n as u64);
+    let space = text::put(&mut bytes, digits, b" ");
+    let end = text::put(&mut bytes, space, shown);
+    let length = text::put(&mut bytes, end, b"\n");
+    Text { bytes, length }
+}
+
 // The line under Done.
-fn entry_line(entry: [u8; 16]) -> Text
+fn entry_line(entry: [u8; BLOCK_LENGTH]) -> Text
     ensures { λ r. ⌜ r .bytes ≡ written (lineOf 0 (textOf entry)) (zeros 35) ⌝ }
     ensures { λ r. ⌜ (r .length ≡ length (lineOf 0 (textOf entry))) × (r .length ≤ 35) ⌝ }
 {
-    let mut bytes = [0u8; 35];
-    bytes[0] = b'0';
-    bytes[1] = b' ';
-    hex::encode(&entry, &mut bytes[2..34]);
-    bytes[34] = b'\n';
-    Text { bytes, length: 35 }
+    let mut digits = [0u8; 32];
+    hex::encode(&entry, &mut digits);
+    line_of(0, &digits)
 }
 
 // The line of the refusal with number n.
 fn refusal_line(n: u32) -> Text
-    requires { ⌜ n < 100 ⌝ }
     ensures { λ r. ⌜ r .bytes ≡ written (lineOf n (45 ∷ [])) (zeros 35) ⌝ }
     ensures { λ r. ⌜ (r .length ≡ length (lineOf n (45 ∷ []))) × (r .length ≤ 35) ⌝ }
 {
-    let mut bytes = [0u8; 35];
-    if n < 10 {
-        bytes[0] = b'0' + n as u8;
-        bytes[1] = b' ';
-        bytes[2] = b'-';
-        bytes[3] = b'\n';
-        return Text { bytes, length: 4 };
-    }
-    bytes[0] = b'0' + (n / 10) as u8;
-    bytes[1] = b'0' + (n % 10) as u8;
-    bytes[2] = b' ';
-    bytes[3] = b'-';
-    bytes[4] = b'\n';
-    Text { bytes, length: 5 }
+    line_of(n, b"-")
 }
 
 // The line for an input of any length.
@@ -54,14 +65,14 @@ pub fn line(input: &[u8]) -> Text
     ensures { λ r. ⌜ r .bytes ≡ written (deskLine (now (input .entry))) (zeros 35) ⌝ }
     ensures { λ r. ⌜ (r .length ≡ length (deskLine (now (input .entry)))) × (r .length ≤ 35) ⌝ }
 {
-    if input.len() != 10026 {
+    if input.len() != INPUT_LENGTH {
         return refusal_line(1);
     }
-    let mut entry = [0u8; 16];
-    let answer = polka::open(
-        &input[0..4357],
-        &input[4357..8490],
-        &input[8490..10026],
+    let mut entry = [0u8; BLOCK_LENGTH];
+    let answer = opening::open(
+        &input[0..SEALED],
+        &input[SEALED..DUMMY],
+        &input[DUMMY..INPUT_LENGTH],
         &mut entry,
     );
     if let Answer::Done = answer {

@@ -1,28 +1,46 @@
--- What the program makes of its input: the public key, the noise and the entry, one behind the other.
-use mathlib.Core.List.{List}
+-- What the program makes of its input, and what it prints.
+use mathlib.Core.List.{List, []}
 use Prim.Native.Nat.{ℕ}
 use lib.Dec.{eqb}
 use lib.ListN.{length}
 use Rattle.records.specs.declared.Refusal.the-variants.{WrongLength}
 use Rattle.records.specs.declared.Answer.{Answer}
 use Rattle.records.specs.Answers.{unless, onDone}
+use Rattle.records.specs.Layout.{publicKeyLength, sealedEntryLength, blockLength}
 use Rattle.records.specs.Records.{part}
+use Rattle.keys.specs.Keys.{tripleNoiseLength}
 use Rattle.calls.specs.Calls.{sealAnswer, sealedBytes}
+use Rattle.refusal_line.specs.Line.{refusalLine}
 
-abbrev pub keyPart : List ℕ → List ℕ
-keyPart input = part 0 4101 input
+-- ---- the input: the public key, the noise and the entry
 
-abbrev pub noisePart : List ℕ → List ℕ
-noisePart input = part 4101 1536 input
+abbrev pub inputLength : ℕ
+inputLength = 5653
 
-abbrev pub entryPart : List ℕ → List ℕ
-entryPart input = part 5637 16 input
+abbrev pub keyPart : (input : List ℕ) → List ℕ
+keyPart input = part 0 publicKeyLength input
 
--- 1 for an input of any other length; the output has `room` bytes
-unfoldable pub sealEntryAnswer : List ℕ → ℕ → Answer
-sealEntryAnswer input room =
-    unless (eqb (length input) 5653) WrongLength (sealAnswer (keyPart input) (noisePart input) (entryPart input) room)
+abbrev pub noisePart : (input : List ℕ) → List ℕ
+noisePart input = part 4101 tripleNoiseLength input
 
-unfoldable pub sealEntryOut : List ℕ → List ℕ → List ℕ
-sealEntryOut input out =
-    onDone (sealEntryAnswer input (length out)) (sealedBytes (keyPart input) (noisePart input) (entryPart input)) out
+abbrev pub entryPart : (input : List ℕ) → List ℕ
+entryPart input = part 5637 blockLength input
+
+-- ---- the sealed entry
+
+-- 1 for an input of any other length
+unfoldable pub sealEntryAnswer : (input : List ℕ) → Answer
+sealEntryAnswer input = unless (eqb (length input) inputLength) WrongLength (sealAnswer (keyPart input) (noisePart input) (entryPart input) sealedEntryLength)
+
+abbrev pub sealedEntry : (input : List ℕ) → List ℕ
+sealedEntry input = sealedBytes (keyPart input) (noisePart input) (entryPart input)
+
+-- ---- what is printed
+
+-- nothing on a refusal
+unfoldable pub standardOutput : (input : List ℕ) → List ℕ
+standardOutput input = onDone (sealEntryAnswer input) (sealedEntry input) []
+
+-- nothing under Done
+unfoldable pub standardError : (input : List ℕ) → List ℕ
+standardError input = refusalLine (sealEntryAnswer input)

@@ -3,47 +3,85 @@
 ghost use mathlib.Core.Path.{_≡_};
 ghost use Prim.Native.Nat.{_≤_};
 ghost use lib.ListN.{length};
+ghost use Rattle.records.specs.Layout.{tripleLength};
+ghost use Rattle.worked_examples.specs.Made.{term, constant, secretKey, publicKey, encapsulation, sealedEntry, stream};
+use encoding::TERNARY_LENGTH;
+use keys::TRIPLE_NOISE_LENGTH;
 use libc::STDOUT_FILENO;
+use modq::Q;
+use ntt::DEGREE;
+use ntt::Element;
 use records::Answer;
+use records::BLOCK_LENGTH;
+use records::ENCAPSULATION_LENGTH;
+use records::FIRST;
+use records::PUBLIC_KEY_LENGTH;
+use records::PUBLIC_KEY_MARK;
+use records::SEALED_ENTRY_LENGTH;
+use records::SEALED_ENTRY_MARK;
+use records::SECOND;
+use records::SECRET_KEY_LENGTH;
+use records::SECRET_KEY_MARK;
+use records::TRIPLE_LENGTH;
+use sampling::NOISE_LENGTH;
+use sampling::STREAM_LENGTH;
 
 // ---- elements and records
 
-// The polynomial c X^k, for k below 1,024.
-fn term(c: u16, k: usize) -> [u16; 1024] {
-    let mut a = [0u16; 1024];
-    if k < 1024 {
+// The polynomial c X^k, for k below 1,024, and else 0.
+fn term(c: u16, k: usize) -> Element
+    ensures { λ r. ⌜ r ≡ term c k ⌝ }
+{
+    let mut a = [0u16; DEGREE];
+    if k < DEGREE {
         a[k] = c;
     }
     a
 }
 
-fn constant(c: u16) -> [u16; 1024] {
+fn constant(c: u16) -> Element
+    ensures { λ r. ⌜ r ≡ constant c ⌝ }
+{
     term(c, 0)
 }
 
 // The secret key of the constants a and b, and s = 0.
-fn secret_key(a: u16, b: u16) -> [u8; 4357] {
-    let mut key = [0u8; 4357];
-    records::write_record(83, 68, 75, constant(a), constant(b), &mut key);
+fn secret_key(a: u16, b: u16) -> [u8; SECRET_KEY_LENGTH]
+    ensures { λ r. ⌜ r ≡ secretKey a b ⌝ }
+{
+    let mut key = [0u8; SECRET_KEY_LENGTH];
+    records::write_record(SECRET_KEY_MARK, 1, constant(a), constant(b), &mut key);
     key
 }
 
-fn public_key(a: u16, b: u16) -> [u8; 4101] {
-    let mut key = [0u8; 4101];
-    records::write_record(80, 68, 75, constant(a), constant(b), &mut key);
+fn public_key(a: u16, b: u16) -> [u8; PUBLIC_KEY_LENGTH]
+    ensures { λ r. ⌜ r ≡ publicKey a b ⌝ }
+{
+    let mut key = [0u8; PUBLIC_KEY_LENGTH];
+    records::write_record(PUBLIC_KEY_MARK, 1, constant(a), constant(b), &mut key);
     key
 }
 
-fn encapsulation(c1: u16, c2: u16) -> [u8; 4096] {
-    let mut c = [0u8; 4096];
+fn encapsulation(c1: u16, c2: u16) -> [u8; ENCAPSULATION_LENGTH]
+    ensures { λ r. ⌜ r ≡ encapsulation c1 c2 ⌝ }
+{
+    let mut c = [0u8; ENCAPSULATION_LENGTH];
     records::write_encapsulation(constant(c1), constant(c2), &mut c);
     c
 }
 
 // A sealed entry whose body and tag are zeros.
-fn sealed_entry(c1: u16, c2: u16) -> [u8; 4133] {
-    let mut sealed = [0u8; 4133];
-    records::write_record(80, 76, 71, constant(c1), constant(c2), &mut sealed);
+fn sealed_entry(c1: u16, c2: u16) -> [u8; SEALED_ENTRY_LENGTH]
+    ensures { λ r. ⌜ r ≡ sealedEntry c1 c2 ⌝ }
+{
+    let mut sealed = [0u8; SEALED_ENTRY_LENGTH];
+    records::write_record(
+        SEALED_ENTRY_MARK,
+        1,
+        constant(c1),
+        constant(c2),
+        &mut sealed,
+    );
     sealed
 }
 
@@ -55,6 +93,12 @@ fn print_text(text: &[u8]) {
 
 fn print_answer(answer: Answer) {
     io::print_decimal(STDOUT_FILENO, records::number(answer) as u64);
+}
+
+fn print_answered(name: &[u8], answer: Answer) {
+    print_text(name);
+    print_answer(answer);
+    print_text(b"\n");
 }
 
 // The term m X^k, without the factor 1 where k is not 0.
@@ -73,19 +117,19 @@ fn print_monomial(m: u16, k: usize) {
 
 // The term with the coefficient c, which is printed by its centred value.
 fn print_term(c: u16, k: usize) {
-    let y = c % 59393;
+    let y = c % Q;
     if y <= 29696 {
         print_monomial(y, k);
     } else {
         print_text(b"-");
-        print_monomial(59393 - y, k);
+        print_monomial(Q - y, k);
     }
 }
 
 // The terms that are not zero, or 0 where there is none.
-fn print_polynomial(a: [u16; 1024]) {
+fn print_polynomial(a: Element) {
     let mut any = false;
-    for k in 0..1024 {
+    for k in 0..DEGREE {
         if a[k] != 0 {
             if any {
                 print_text(b" + ");
@@ -101,7 +145,7 @@ fn print_polynomial(a: [u16; 1024]) {
 
 // ---- units
 
-fn print_inverse(name: &[u8], a: [u16; 1024]) {
+fn print_inverse(name: &[u8], a: Element) {
     let inversion = ring::inverse(a);
     print_text(name);
     if inversion.exists {
@@ -124,9 +168,7 @@ fn print_units() {
 
 fn print_key_check(name: &[u8], a: u16, b: u16) {
     let key = secret_key(a, b);
-    print_text(name);
-    print_answer(polka::check_secret_key(&key));
-    print_text(b"\n");
+    print_answered(name, key_calls::check_secret_key(&key));
 }
 
 fn print_keys() {
@@ -135,24 +177,27 @@ fn print_keys() {
     print_key_check(b"key a = 0, b = 0, s = 0: ", 0, 0);
 }
 
+// Where e2 starts in a triple.
+const E2: usize = 2 * TERNARY_LENGTH;
+
 // ---- openings under the key a = 0, b = 5, s = 0
 
 fn print_triple(triple: &[u8])
-    requires { ⌜ length (now triple) ≡ 768 ⌝ }
+    requires { ⌜ length (now triple) ≡ tripleLength ⌝ }
 {
     print_text(b", r = ");
-    print_polynomial(encoding::decode_ternary(&triple[0..256]));
+    print_polynomial(encoding::decode_ternary(&triple[0..TERNARY_LENGTH]));
     print_text(b", e1 = ");
-    print_polynomial(encoding::decode_ternary(&triple[256..512]));
+    print_polynomial(encoding::decode_ternary(&triple[TERNARY_LENGTH..E2]));
     print_text(b", e2 = ");
-    print_polynomial(encoding::decode_ternary(&triple[512..768]));
+    print_polynomial(encoding::decode_ternary(&triple[E2..TRIPLE_LENGTH]));
 }
 
 fn print_opening(c1: u16, c2: u16, dummy: &[u8]) {
     let key = secret_key(0, 5);
     let c = encapsulation(c1, c2);
-    let mut triple = [0u8; 768];
-    let answer = polka::decapsulate(&key, &c, dummy, &mut triple);
+    let mut triple = [0u8; TRIPLE_LENGTH];
+    let answer = opening::decapsulate(&key, &c, dummy, &mut triple);
     print_answer(answer);
     if let Answer::Done = answer {
         print_triple(&triple);
@@ -164,10 +209,10 @@ fn print_opening(c1: u16, c2: u16, dummy: &[u8]) {
 fn print_openings_of(name: &[u8], c1: u16, c2: u16) {
     print_text(name);
     print_text(b", dummy of zeros: ");
-    print_opening(c1, c2, &[0u8; 768]);
+    print_opening(c1, c2, &[0u8; TRIPLE_LENGTH]);
     print_text(name);
     print_text(b", another dummy: ");
-    print_opening(c1, c2, &[18u8; 768]);
+    print_opening(c1, c2, &[18u8; TRIPLE_LENGTH]);
 }
 
 fn print_openings() {
@@ -180,10 +225,11 @@ fn print_openings() {
 // ---- streams
 
 // A stream whose first words are of the bytes low and high, and the others zero.
-fn stream(words: usize, low: u8, high: u8) -> [u8; 2688]
+fn stream(words: usize, low: u8, high: u8) -> [u8; STREAM_LENGTH]
     requires { ⌜ words ≤ 1344 ⌝ }
+    ensures { λ r. ⌜ r ≡ stream words low high ⌝ }
 {
-    let mut s = [0u8; 2688];
+    let mut s = [0u8; STREAM_LENGTH];
     for k in 0..words {
         s[2 * k] = low;
         s[2 * k + 1] = high;
@@ -193,17 +239,17 @@ fn stream(words: usize, low: u8, high: u8) -> [u8; 2688]
 
 // Key making from the stream with s = 0 and e = 1, and the a that it takes from the stream.
 fn print_keygen(name: &[u8], stream: &[u8]) {
-    let s = [0u8; 512];
-    let mut e = [0u8; 512];
+    let s = [0u8; NOISE_LENGTH];
+    let mut e = [0u8; NOISE_LENGTH];
     e[0] = 1;
-    let mut public = [0u8; 4101];
-    let mut secret = [0u8; 4357];
-    let answer = polka::keygen(stream, &s, &e, &mut public, &mut secret);
+    let mut public = [0u8; PUBLIC_KEY_LENGTH];
+    let mut secret = [0u8; SECRET_KEY_LENGTH];
+    let answer = key_calls::keygen(stream, &s, &e, &mut public, &mut secret);
     print_text(name);
     print_answer(answer);
     if let Answer::Done = answer {
         print_text(b", a = ");
-        print_polynomial(encoding::decode_element(&public[5..2053]));
+        print_polynomial(encoding::decode_element(&public[FIRST..SECOND]));
     }
     print_text(b"\n");
 }
@@ -220,24 +266,22 @@ fn print_streams() {
 
 fn print_public_key_word() {
     let key = public_key(59393, 5);
-    let mut out = [0u8; 4096];
-    print_text(b"word 59393 in a public key: ");
-    print_answer(polka::encapsulate(&key, &[0u8; 768], &mut out));
-    print_text(b"\n");
+    let mut out = [0u8; ENCAPSULATION_LENGTH];
+    let answer = sealing::encapsulate(&key, &[0u8; TRIPLE_LENGTH], &mut out);
+    print_answered(b"word 59393 in a public key: ", answer);
 }
 
 fn print_encapsulation_word() {
     print_text(b"word 59393 in an encapsulation: ");
-    print_opening(59393, 0, &[0u8; 768]);
+    print_opening(59393, 0, &[0u8; TRIPLE_LENGTH]);
 }
 
 fn print_sealed_entry_word() {
     let key = secret_key(0, 5);
     let sealed = sealed_entry(59393, 0);
-    let mut out = [0u8; 16];
-    print_text(b"word 59393 in a sealed entry: ");
-    print_answer(polka::open(&key, &sealed, &[0u8; 1536], &mut out));
-    print_text(b"\n");
+    let mut out = [0u8; BLOCK_LENGTH];
+    let answer = opening::open(&key, &sealed, &[0u8; TRIPLE_NOISE_LENGTH], &mut out);
+    print_answered(b"word 59393 in a sealed entry: ", answer);
 }
 
 fn print_words() {

@@ -7,7 +7,7 @@ use Rattle.hex.specs.Hex.{textOf}
 use Rattle.desk_line.specs.Line.{deskAnswer, deskEntry, lineOf, deskLine}
 use borrow.Author.Needs.{needs}
 use borrow.Author.Tests.{eq-eqb}
-use Rattle.desk_line.proofs.Lines.{number-below, answer-by-length, done-line, refused-line, other-length-line, holds}
+use Rattle.desk_line.proofs.Lines.{answer-by-length, done-line, refused-line, other-length-line, holds}
 use Rattle.desk_line.proofs.line.Statement.{statement}
 use Rattle.desk_line.proofs.line.Tie as tie
 
@@ -80,7 +80,7 @@ number-requires : tie.Need-number-requires
 number-requires c κs = search needs
 
 refusal-line-requires-2 : tie.Need-refusal-line-requires-2
-refusal-line-requires-2 c κs = number-below (c .before .before .before .before .«open» .result) (c .number .ensures)
+refusal-line-requires-2 c κs = search needs
 
 returns-3 : tie.Need-returns-3
 returns-3 c =

@@ -41,7 +41,7 @@ returns : tie.Need-returns
 unfolding lineOf
 returns c =
     let shaken = c .before .before .before .before .before in
-    let message = now (shaken .before .before .before .args .input) in
+    let message = now (shaken .before .before .before .args .message) in
     let output = shaken .shake256 .last .1 .0 in
     let size : length output ≡ 32 = shaken .shake256 .kept .1 .0 in
     let same : output ≡ shake256 message 32 = shaken .shake256 .ensures in

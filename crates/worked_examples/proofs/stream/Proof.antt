@@ -1,18 +1,17 @@
-use mathlib.Core.Path.{_≡_}
 use Prim.Native.Nat.{_-_}
-use lib.ListN.{length}
+use Rattle.worked_examples.proofs.Streams.{Written, written-none, written-more, written-all}
 use borrow.Author.Needs.{needs}
 use Rattle.worked_examples.proofs.stream.Statement.{statement}
 use Rattle.worked_examples.proofs.stream.Tie as tie
 
 abbrev Inv-loop : tie.InvT-loop
-Inv-loop words low high s₀ k₀ s k = length s ≡ 2688
+Inv-loop words low high s₀ k₀ s k = Written words low high s k
 
 abbrev μ-loop : tie.MeasureT-loop
 μ-loop words low high s₀ k₀ s k = words - k
 
 loop-holds : tie.Need-loop-holds Inv-loop μ-loop
-loop-holds c = search needs
+loop-holds c = written-none (c .args .words) (c .args .low) (c .args .high)
 
 mul-s : tie.Need-mul-s Inv-loop μ-loop
 mul-s c = search needs
@@ -36,10 +35,10 @@ loop-less : tie.Need-loop-less Inv-loop μ-loop
 loop-less c = search needs
 
 loop-again : tie.Need-loop-again Inv-loop μ-loop
-loop-again c = search needs
+loop-again c = written-more (c .before .loop .inv) (c .loop-test .taken) (c .before .before .pre)
 
 returns : tie.Need-returns Inv-loop μ-loop
-returns c = search needs
+returns c = written-all (c .before .loop .inv) (c .loop-test .left)
 
 pub stream-spec : {M : Type 1} → statement M
 stream-spec =

@@ -1,0 +1,3 @@
+-- Laws of what the examples are made of.
+pub mod Behind
+pub mod Streams

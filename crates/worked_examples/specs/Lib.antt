@@ -1,0 +1,2 @@
+-- What the contracts of `worked_examples` cite.
+pub mod Made
