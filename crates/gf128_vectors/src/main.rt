@@ -1,9 +1,10 @@
 // Works through a file of example products of the tag's field and prints a line: how many cases agreed and how many differed, or what is
 // wrong with the file.
 ghost use mathlib.Core.Path.{_≡_};
+ghost use mathlib.Core.Bool.{true};
 ghost use lib.ListN.{length};
-ghost use Rattle.vectors.specs.Answers.{Tells, Judged};
-ghost use Rattle.gf128_vectors.specs.Cases.{Case, Agrees};
+ghost use Rattle.vectors.specs.Answers.{report};
+ghost use Rattle.gf128_vectors.specs.Cases.{case?, agrees?, verdict};
 use vectors::Report;
 use vectors::Verdict;
 
@@ -19,33 +20,28 @@ fn block(bytes: &[u8]) -> [u8; 16]
 }
 
 fn agrees(text: &[u8]) -> bool
-    requires { ⌜ Case (now text) ⌝ }
-    ensures { λ r. ⌜ Tells r (Agrees (now (text .entry))) ⌝ }
+    requires { ⌜ case? (now text) ≡ true ⌝ }
+    ensures { λ r. ⌜ r ≡ agrees? (now (text .entry)) ⌝ }
 {
-    if vectors::number(text, 2) != 0 {
-        return false;
-    }
     let x = block(vectors::field(text, 0));
     let y = block(vectors::field(text, 1));
     let found = gf128::product(x, y);
-    vectors::same(&found, vectors::field(text, 4))
+    (vectors::number(text, 2) == 0) & vectors::same(&found, vectors::field(text, 4))
 }
 
 fn judge(text: &[u8]) -> Verdict
-    ensures { λ r. ⌜ Judged (Case (now (text .entry))) (Agrees (now (text .entry))) r ⌝ }
+    ensures { λ r. ⌜ r ≡ verdict (now (text .entry)) ⌝ }
 {
     let sizes = [16usize, 16, 4, 0, 16];
     if !vectors::has_sizes(text, &sizes) {
         return Verdict::Malformed;
     }
-    if agrees(text) {
-        Verdict::Agreed
-    } else {
-        Verdict::Differed
-    }
+    vectors::judged(true, agrees(text))
 }
 
-fn judge_cases(text: &[u8]) -> Report {
+fn judge_cases(text: &[u8]) -> Report
+    ensures { λ r. ⌜ r ≡ report verdict 5 (now (text .entry)) ⌝ }
+{
     let mut report = Report::Counts(0, 0);
     let mut at = 0;
     while at < text.len() {
@@ -60,7 +56,7 @@ fn check_file(name: &[u8]) {
     let mut buffer = vectors::file_buffer();
     let read = vectors::read_file(name, &mut buffer);
     let report = judge_cases(vectors::read_bytes(read, &buffer));
-    vectors::print_report(name, read, report);
+    report_line::print(name, read, report);
 }
 
 fn main() {

@@ -1,9 +1,9 @@
 -- The cases of the public calls: their fields, and when what a call does agrees with what a case tells. The fields of a case are the
 -- inputs, with the lengths of the outputs last, the number, an empty field, and the outputs.
-use mathlib.Core.Path.{_≡_}
-use mathlib.Core.Bool.{true}
+use mathlib.Core.Bool.{Bool, _&&_, cond}
 use mathlib.Core.List.{List}
-use Prim.Native.Nat.{ℕ, zero, suc, _+_, _-_, _%_, min}
+use Prim.Native.Nat.{ℕ, _+_, _-_, _%_, min}
+use lib.Dec.{eqb}
 use lib.ListN.{length, getD, replicate, take}
 use Rattle.shake.specs.Shake.{shake256}
 use Rattle.sampling.specs.Noise.{ternaryNoise}
@@ -13,7 +13,9 @@ use Rattle.records.specs.Answers.{number}
 use Rattle.calls.specs.Calls.{checkAnswer, keygenAnswer, keygenPublic, keygenSecret, encapsulateAnswer, encapsulateOut}
 use Rattle.calls.specs.Calls.{decapsulateAnswer, decapsulateOut, sealAnswer, sealOut, openAnswer, openOut}
 use Rattle.desk_line.specs.Line.{deskLine}
+use Rattle.vectors.specs.declared.Verdict.{Verdict}
 use Rattle.vectors.specs.Fields.{word32, field, hasField}
+use Rattle.vectors.specs.Answers.{same?, verdictOf}
 use Rattle.reference_vectors.specs.declared.Call.{Call}
 use Rattle.reference_vectors.specs.declared.Call.the-variants.{Encapsulate, Decapsulate, Seal, Open, Shake256}
 use Rattle.reference_vectors.specs.declared.Kind.{Kind}
@@ -33,15 +35,18 @@ filler = 165
 unfoldable pub output : ℕ → List ℕ → List ℕ
 output i text = replicate (room i text) filler
 
+-- a buffer of which every byte is the filler
+abbrev pub filled : List ℕ → List ℕ
+filled buffer = replicate (length buffer) filler
+
 -- an output after the call, for the number and the bytes that are told: under 0 it is these bytes; under any other number none are told,
 -- and it is as it was
-abbrev pub OutputAgrees : ℕ → List ℕ → List ℕ → Type 0
-OutputAgrees zero bytes after = after ≡ bytes
-OutputAgrees (suc k) bytes after = (length bytes ≡ 0) × (after ≡ replicate (length after) filler)
+abbrev pub outputAgrees? : (told : ℕ) (bytes after : List ℕ) → Bool
+outputAgrees? told bytes after = cond (eqb told 0) (same? after bytes) (eqb (length bytes) 0 && same? after (filled after))
 
 -- the number is the one that is told, and the output is what is told
-unfoldable pub AnswerAgrees : Answer → ℕ → List ℕ → List ℕ → Type 0
-AnswerAgrees answer told bytes after = (number answer ≡ told) × OutputAgrees told bytes after
+unfoldable pub answerAgrees? : (answer : Answer) (told : ℕ) (bytes after : List ℕ) → Bool
+answerAgrees? answer told bytes after = eqb (number answer) told && outputAgrees? told bytes after
 
 -- ---- calls with one output, by their inputs x, y and z, of which a call takes as many as it has
 
@@ -77,48 +82,60 @@ lastField (Writing call) = sizeField call + 3
 lastField Noise = 3
 lastField Desk = 3
 
-abbrev pub Case : Kind → List ℕ → Type 0
-Case kind text = hasField (lastField kind) text ≡ true
+abbrev pub case? : Kind → List ℕ → Bool
+case? kind text = hasField (lastField kind) text
 
-abbrev pub CheckAgrees : List ℕ → Type 0
-CheckAgrees text = number (checkAnswer (field 0 text)) ≡ word32 (field 1 text)
+abbrev pub checkAgrees? : List ℕ → Bool
+checkAgrees? text = eqb (number (checkAnswer (field 0 text))) (word32 (field 1 text))
 
 -- what keygen answered and wrote is what is told
-abbrev pub KeysAgree : List ℕ → Answer → List ℕ → List ℕ → Type 0
-KeysAgree text answer public secret =
-    AnswerAgrees answer (word32 (field 5 text)) (field 7 text) public × AnswerAgrees answer (word32 (field 5 text)) (field 8 text) secret
+abbrev pub keysAgree? : (text : List ℕ) (answer : Answer) (public secret : List ℕ) → Bool
+keysAgree? text answer public secret =
+    answerAgrees? answer (word32 (field 5 text)) (field 7 text) public && answerAgrees? answer (word32 (field 5 text)) (field 8 text) secret
 
--- where the outputs hold `public` and `secret` before the call
-unfoldable pub KeygenAgrees : List ℕ → List ℕ → List ℕ → Type 0
-KeygenAgrees text public secret =
-    KeysAgree text (keygenAnswer (field 0 text) (field 1 text) (field 2 text) (length public) (length secret))
-    (keygenPublic (field 0 text) (field 1 text) (field 2 text) public secret)
-    (keygenSecret (field 0 text) (field 1 text) (field 2 text) public secret)
+-- the outputs after the call, where they hold `public` and `secret` before it
+unfoldable pub publicAfter : (text public secret : List ℕ) → List ℕ
+publicAfter text public secret = keygenPublic (field 0 text) (field 1 text) (field 2 text) public secret
 
--- where the output holds `out` before the call
-unfoldable pub CallAgrees : Call → List ℕ → List ℕ → Type 0
-CallAgrees call text out =
-    AnswerAgrees (callAnswer call (field 0 text) (field 1 text) (field 2 text) (length out)) (word32 (field (sizeField call + 1) text))
-    (field (sizeField call + 3) text) (callOut call (field 0 text) (field 1 text) (field 2 text) out)
+unfoldable pub secretAfter : (text public secret : List ℕ) → List ℕ
+secretAfter text public secret = keygenSecret (field 0 text) (field 1 text) (field 2 text) public secret
+
+unfoldable pub keygenAgrees? : (text public secret : List ℕ) → Bool
+keygenAgrees? text public secret =
+    keysAgree? text (keygenAnswer (field 0 text) (field 1 text) (field 2 text) (length public) (length secret)) (publicAfter text public secret)
+    (secretAfter text public secret)
+
+-- the output after the call, where it holds `out` before it
+unfoldable pub outAfter : (call : Call) (text out : List ℕ) → List ℕ
+outAfter call text out = callOut call (field 0 text) (field 1 text) (field 2 text) out
+
+unfoldable pub callAgrees? : (call : Call) (text out : List ℕ) → Bool
+callAgrees? call text out =
+    answerAgrees? (callAnswer call (field 0 text) (field 1 text) (field 2 text) (length out)) (word32 (field (sizeField call + 1) text))
+    (field (sizeField call + 3) text) (outAfter call text out)
 
 -- the coefficient of a number above −q, which stands in two's complement
 abbrev pub residueOf : ℕ → ℕ
 residueOf w = (w + 59393) % 4294967296 % 59393
 
 -- four bits, in a byte with zeros above them, and their coefficient
-abbrev pub NoiseAgrees : List ℕ → Type 0
-NoiseAgrees text = (word32 (field 1 text) ≡ 0) × (getD (ternaryNoise (field 0 text)) 0 0 ≡ residueOf (word32 (field 3 text)))
+abbrev pub noiseAgrees? : List ℕ → Bool
+noiseAgrees? text = eqb (word32 (field 1 text)) 0 && eqb (getD (ternaryNoise (field 0 text)) 0 0) (residueOf (word32 (field 3 text)))
 
 -- the desk's line is told without its line feed
 abbrev pub withoutFeed : List ℕ → List ℕ
 withoutFeed line = take (length line - 1) line
 
-abbrev pub DeskAgrees : List ℕ → Type 0
-DeskAgrees text = withoutFeed (deskLine (field 0 text)) ≡ field 3 text
+abbrev pub deskAgrees? : List ℕ → Bool
+deskAgrees? text = same? (withoutFeed (deskLine (field 0 text))) (field 3 text)
 
-abbrev pub Agrees : Kind → List ℕ → Type 0
-Agrees CheckSecretKey text = CheckAgrees text
-Agrees Keygen text = KeygenAgrees text (output 3 text) (output 4 text)
-Agrees (Writing call) text = CallAgrees call text (output (sizeField call) text)
-Agrees Noise text = NoiseAgrees text
-Agrees Desk text = DeskAgrees text
+abbrev pub agrees? : Kind → List ℕ → Bool
+agrees? CheckSecretKey text = checkAgrees? text
+agrees? Keygen text = keygenAgrees? text (output 3 text) (output 4 text)
+agrees? (Writing call) text = callAgrees? call text (output (sizeField call) text)
+agrees? Noise text = noiseAgrees? text
+agrees? Desk text = deskAgrees? text
+
+-- the verdict on the case that a text starts with
+unfoldable pub verdict : Kind → List ℕ → Verdict
+verdict kind text = verdictOf (case? kind text) (agrees? kind text)

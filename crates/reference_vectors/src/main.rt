@@ -2,11 +2,13 @@
 // each file: how many cases agreed and how many differed, or what is wrong with the file. The files of example products, inverses and
 // remainders are worked through by ring_vectors, that of products in the tag's field by gf128_vectors.
 ghost use mathlib.Core.Path.{_≡_};
-ghost use Prim.Native.Nat.{_≤_};
-ghost use lib.ListN.{length, replicate};
-ghost use Rattle.vectors.specs.Answers.{Tells, Judged};
-ghost use Rattle.reference_vectors.specs.Cases.{room, filler, output, OutputAgrees, AnswerAgrees, callAnswer, callOut, sizeField, lastField};
-ghost use Rattle.reference_vectors.specs.Cases.{Case, CheckAgrees, KeysAgree, KeygenAgrees, CallAgrees, residueOf, NoiseAgrees, DeskAgrees, Agrees};
+ghost use Prim.Native.Nat.{_+_, _≤_};
+ghost use lib.ListN.{length};
+ghost use Rattle.lists.specs.Table.{zeros};
+ghost use Rattle.vectors.specs.Answers.{report};
+ghost use Rattle.reference_vectors.specs.Cases.{room, filled, output, outputAgrees?, answerAgrees?, callAnswer, callOut, sizeField, lastField};
+ghost use Rattle.reference_vectors.specs.Cases.{checkAgrees?, keysAgree?, publicAfter, secretAfter, keygenAgrees?, outAfter, callAgrees?};
+ghost use Rattle.reference_vectors.specs.Cases.{residueOf, noiseAgrees?, deskAgrees?, agrees?, verdict};
 use records::Answer;
 use vectors::Report;
 use vectors::Verdict;
@@ -35,7 +37,7 @@ enum Kind {
 const FILLER: u8 = 165;
 
 fn output_buffer() -> [u8; 65536]
-    ensures { λ r. ⌜ 65536 ≡ length r ⌝ }
+    ensures { λ r. ⌜ r ≡ zeros 65536 ⌝ }
 {
     [0; 65536]
 }
@@ -49,32 +51,26 @@ fn room(text: &[u8], i: usize) -> usize
 }
 
 fn output_agrees(told: u32, bytes: &[u8], after: &[u8]) -> bool
-    ensures { λ r. ⌜ Tells r (OutputAgrees told (now (bytes .entry)) (now (after .entry))) ⌝ }
+    ensures { λ r. ⌜ r ≡ outputAgrees? told (now (bytes .entry)) (now (after .entry)) ⌝ }
 {
     if told == 0 {
         return vectors::same(after, bytes);
     }
-    if bytes.len() != 0 {
-        return false;
-    }
-    vectors::is_filled(after, FILLER)
+    (bytes.len() == 0) & vectors::is_filled(after, FILLER)
 }
 
 fn answer_agrees(answer: Answer, told: u32, bytes: &[u8], after: &[u8]) -> bool
-    ensures { λ r. ⌜ Tells r (AnswerAgrees answer told (now (bytes .entry)) (now (after .entry))) ⌝ }
+    ensures { λ r. ⌜ r ≡ answerAgrees? answer told (now (bytes .entry)) (now (after .entry)) ⌝ }
 {
-    if records::number(answer) != told {
-        return false;
-    }
-    output_agrees(told, bytes, after)
+    (records::number(answer) == told) & output_agrees(told, bytes, after)
 }
 
 // ---- check_secret_key
 
 fn check_agrees(text: &[u8]) -> bool
-    ensures { λ r. ⌜ Tells r (CheckAgrees (now (text .entry))) ⌝ }
+    ensures { λ r. ⌜ r ≡ checkAgrees? (now (text .entry)) ⌝ }
 {
-    let answer = polka::check_secret_key(vectors::field(text, 0));
+    let answer = key_calls::check_secret_key(vectors::field(text, 0));
     records::number(answer) == vectors::number(text, 1)
 }
 
@@ -82,21 +78,21 @@ fn check_agrees(text: &[u8]) -> bool
 
 // Whether both keys are what a case tells.
 fn keys_agree(text: &[u8], answer: Answer, public: &[u8], secret: &[u8]) -> bool
-    ensures { λ r. ⌜ Tells r (KeysAgree (now (text .entry)) answer (now (public .entry)) (now (secret .entry))) ⌝ }
+    ensures { λ r. ⌜ r ≡ keysAgree? (now (text .entry)) answer (now (public .entry)) (now (secret .entry)) ⌝ }
 {
     let told = vectors::number(text, 5);
-    if !answer_agrees(answer, told, vectors::field(text, 7), public) {
-        return false;
-    }
-    answer_agrees(answer, told, vectors::field(text, 8), secret)
+    answer_agrees(answer, told, vectors::field(text, 7), public)
+        & answer_agrees(answer, told, vectors::field(text, 8), secret)
 }
 
 fn keygen_agrees(text: &[u8], public: &mut [u8], secret: &mut [u8]) -> bool
-    ensures { λ r. ⌜ Tells r (KeygenAgrees (now (text .entry)) (replicate (length (now (public .entry))) filler) (replicate (length (now (secret .entry))) filler)) ⌝ }
+    ensures { λ r. ⌜ r ≡ keygenAgrees? (now (text .entry)) (filled (now (public .entry))) (filled (now (secret .entry))) ⌝ }
+    ensures { λ _. ⌜ now (public .exit) ≡ publicAfter (now (text .entry)) (filled (now (public .entry))) (filled (now (secret .entry))) ⌝ }
+    ensures { λ _. ⌜ now (secret .exit) ≡ secretAfter (now (text .entry)) (filled (now (public .entry))) (filled (now (secret .entry))) ⌝ }
 {
     vectors::fill(public, FILLER);
     vectors::fill(secret, FILLER);
-    let answer = polka::keygen(
+    let answer = key_calls::keygen(
         vectors::field(text, 0),
         vectors::field(text, 1),
         vectors::field(text, 2),
@@ -107,7 +103,7 @@ fn keygen_agrees(text: &[u8], public: &mut [u8], secret: &mut [u8]) -> bool
 }
 
 fn keygen_case_agrees(text: &[u8]) -> bool
-    ensures { λ r. ⌜ Tells r (KeygenAgrees (now (text .entry)) (output 3 (now (text .entry))) (output 4 (now (text .entry)))) ⌝ }
+    ensures { λ r. ⌜ r ≡ keygenAgrees? (now (text .entry)) (output 3 (now (text .entry))) (output 4 (now (text .entry))) ⌝ }
 {
     let mut public = output_buffer();
     let mut secret = output_buffer();
@@ -127,10 +123,10 @@ fn run(call: Call, x: &[u8], y: &[u8], z: &[u8], out: &mut [u8]) -> Answer
     ensures { λ _. ⌜ now (out .exit) ≡ callOut call (now (x .entry)) (now (y .entry)) (now (z .entry)) (now (out .entry)) ⌝ }
 {
     match call {
-        Call::Encapsulate => polka::encapsulate(x, y, out),
-        Call::Decapsulate => polka::decapsulate(x, y, z, out),
-        Call::Seal => polka::seal(x, y, z, out),
-        Call::Open => polka::open(x, y, z, out),
+        Call::Encapsulate => sealing::encapsulate(x, y, out),
+        Call::Decapsulate => opening::decapsulate(x, y, z, out),
+        Call::Seal => sealing::seal(x, y, z, out),
+        Call::Open => opening::open(x, y, z, out),
         Call::Shake256 => {
             shake::shake256(x, out);
             Answer::Done
@@ -151,7 +147,8 @@ fn size_field(call: Call) -> usize
 }
 
 fn call_agrees(call: Call, text: &[u8], out: &mut [u8]) -> bool
-    ensures { λ r. ⌜ Tells r (CallAgrees call (now (text .entry)) (replicate (length (now (out .entry))) filler)) ⌝ }
+    ensures { λ r. ⌜ r ≡ callAgrees? call (now (text .entry)) (filled (now (out .entry))) ⌝ }
+    ensures { λ _. ⌜ now (out .exit) ≡ outAfter call (now (text .entry)) (filled (now (out .entry))) ⌝ }
 {
     vectors::fill(out, FILLER);
     let answer = run(
@@ -167,7 +164,7 @@ fn call_agrees(call: Call, text: &[u8], out: &mut [u8]) -> bool
 }
 
 fn call_case_agrees(call: Call, text: &[u8]) -> bool
-    ensures { λ r. ⌜ Tells r (CallAgrees call (now (text .entry)) (output (sizeField call) (now (text .entry)))) ⌝ }
+    ensures { λ r. ⌜ r ≡ callAgrees? call (now (text .entry)) (output (sizeField call) (now (text .entry))) ⌝ }
 {
     let mut out = output_buffer();
     let size = room(text, size_field(call));
@@ -184,20 +181,17 @@ fn residue(w: u32) -> u64
 }
 
 fn noise_agrees(text: &[u8]) -> bool
-    ensures { λ r. ⌜ Tells r (NoiseAgrees (now (text .entry))) ⌝ }
+    ensures { λ r. ⌜ r ≡ noiseAgrees? (now (text .entry)) ⌝ }
 {
-    if vectors::number(text, 1) != 0 {
-        return false;
-    }
     let p = sampling::ternary(vectors::field(text, 0));
-    p[0] as u64 == residue(vectors::number(text, 3))
+    (vectors::number(text, 1) == 0) & (p[0] as u64 == residue(vectors::number(text, 3)))
 }
 
 // ---- the desk
 
 // The line that the desk prints, without its line feed.
 fn desk_agrees(text: &[u8]) -> bool
-    ensures { λ r. ⌜ Tells r (DeskAgrees (now (text .entry))) ⌝ }
+    ensures { λ r. ⌜ r ≡ deskAgrees? (now (text .entry)) ⌝ }
 {
     let line = desk_line::line(vectors::field(text, 0));
     let bytes = line.bytes;
@@ -220,7 +214,7 @@ fn last_field(kind: Kind) -> usize
 }
 
 fn agrees(kind: Kind, text: &[u8]) -> bool
-    ensures { λ r. ⌜ Tells r (Agrees kind (now (text .entry))) ⌝ }
+    ensures { λ r. ⌜ r ≡ agrees? kind (now (text .entry)) ⌝ }
 {
     match kind {
         Kind::CheckSecretKey => check_agrees(text),
@@ -233,7 +227,7 @@ fn agrees(kind: Kind, text: &[u8]) -> bool
 
 // The verdict on the case that a text starts with.
 fn judge(kind: Kind, text: &[u8]) -> Verdict
-    ensures { λ r. ⌜ Judged (Case kind (now (text .entry))) (Agrees kind (now (text .entry))) r ⌝ }
+    ensures { λ r. ⌜ r ≡ verdict kind (now (text .entry)) ⌝ }
 {
     vectors::judged(
         vectors::has_field(text, last_field(kind)),
@@ -241,7 +235,9 @@ fn judge(kind: Kind, text: &[u8]) -> Verdict
     )
 }
 
-fn judge_cases(kind: Kind, text: &[u8]) -> Report {
+fn judge_cases(kind: Kind, text: &[u8]) -> Report
+    ensures { λ r. ⌜ r ≡ report (verdict kind) (lastField kind + 1) (now (text .entry)) ⌝ }
+{
     let fields = last_field(kind) + 1;
     let mut report = Report::Counts(0, 0);
     let mut at = 0;
@@ -259,7 +255,7 @@ fn check_file(kind: Kind, name: &[u8]) {
     let mut buffer = vectors::file_buffer();
     let read = vectors::read_file(name, &mut buffer);
     let report = judge_cases(kind, vectors::read_bytes(read, &buffer));
-    vectors::print_report(name, read, report);
+    report_line::print(name, read, report);
 }
 
 fn check_key_files() {

@@ -5,8 +5,12 @@ ghost use Prim.Native.Nat.{_<_};
 ghost use Rattle.ntt.specs.Factors.{forwardFactors, backwardFactors};
 ghost use Rattle.encoding.specs.Words.{elementOf};
 ghost use Rattle.vectors.specs.Fields.{field};
-ghost use Rattle.vectors.specs.Answers.{Tells, Judged};
-ghost use Rattle.ring_vectors.specs.Cases.{inverseSize, Case, ProductAgrees, inverseNumber, InverseAgrees, signed, raised, Divides, IntegersAgree, RemainderAgrees, Agrees};
+ghost use Rattle.vectors.specs.Answers.{same?, report};
+ghost use Rattle.ring_vectors.specs.Cases.{inverseSize, fieldCount, case?, productAgrees?, inverseNumber, inverseAgrees?};
+ghost use Rattle.ring_vectors.specs.Cases.{signed, sameInteger?, raised, divides?, integersAgree?, remainderAgrees?, agrees?, verdict};
+use encoding::ELEMENT_LENGTH;
+use ntt::DEGREE;
+use ntt::Element;
 use vectors::Report;
 use vectors::Verdict;
 
@@ -20,16 +24,16 @@ enum Kind {
 // ---- elements
 
 // The element in field i.
-fn element(text: &[u8], i: usize) -> [u16; 1024]
+fn element(text: &[u8], i: usize) -> Element
     ensures { λ r. ⌜ r ≡ elementOf (field i (now (text .entry))) ⌝ }
 {
     encoding::decode_element(vectors::field(text, i))
 }
 
-fn same_elements(a: [u16; 1024], b: [u16; 1024]) -> bool
-    ensures { λ r. ⌜ Tells r (a ≡ b) ⌝ }
+fn same_elements(a: Element, b: Element) -> bool
+    ensures { λ r. ⌜ r ≡ same? a b ⌝ }
 {
-    for k in 0..1024 {
+    for k in 0..DEGREE {
         if a[k] != b[k] {
             return false;
         }
@@ -51,7 +55,7 @@ fn signed(x: u32) -> i32
 }
 
 fn same_integers(a: i32, b: i32) -> bool
-    ensures { λ r. ⌜ Tells r (a ≡ b) ⌝ }
+    ensures { λ r. ⌜ r ≡ sameInteger? a b ⌝ }
 {
     a == b
 }
@@ -69,38 +73,32 @@ fn raised(x: u32) -> u64
 
 // Whether m = r + 5 k. All three are raised, so that nothing is negative.
 fn divides(m: u32, r: u32, k: u32) -> bool
-    ensures { λ b. ⌜ Tells b (Divides m r k) ⌝ }
+    ensures { λ b. ⌜ b ≡ divides? m r k ⌝ }
 {
     raised(m) + 10737418240 == raised(r) + 5 * raised(k)
 }
 
 // Of a word, its centred value m, the remainder r and the quotient k of m.
 fn integers_agree(w: u16, m: u32, r: u32, k: u32) -> bool
-    ensures { λ b. ⌜ Tells b (IntegersAgree w m r k) ⌝ }
+    ensures { λ b. ⌜ b ≡ integersAgree? w m r k ⌝ }
 {
     let found = ring::centred(w);
-    if !same_integers(found, signed(m)) {
-        return false;
-    }
-    if !same_integers(ring::centred_remainder(found), signed(r)) {
-        return false;
-    }
-    divides(m, r, k)
+    same_integers(found, signed(m))
+        & same_integers(ring::centred_remainder(found), signed(r))
+        & divides(m, r, k)
 }
 
 // ---- when a case agrees. The tables of factors are lent, so that they are made once a file.
 
 fn product_agrees(text: &[u8], forward: &[u16], backward: &[u16]) -> bool
     requires { ⌜ (now forward ≡ forwardFactors) × (now backward ≡ backwardFactors) ⌝ }
-    ensures { λ r. ⌜ Tells r (ProductAgrees (now (text .entry))) ⌝ }
+    ensures { λ r. ⌜ r ≡ productAgrees? (now (text .entry)) ⌝ }
 {
-    if vectors::number(text, 2) != 0 {
-        return false;
-    }
     let f = element(text, 0);
     let g = element(text, 1);
     let expected = element(text, 4);
-    same_elements(ring::product_with(f, g, forward, backward), expected)
+    let found = ring::product_with(f, g, forward, backward);
+    (vectors::number(text, 2) == 0) & same_elements(found, expected)
 }
 
 // The number of a case, by whether there is an inverse.
@@ -112,37 +110,30 @@ fn inverse_number(exists: bool) -> u32
 
 fn inverse_agrees(text: &[u8], forward: &[u16], backward: &[u16]) -> bool
     requires { ⌜ (now forward ≡ forwardFactors) × (now backward ≡ backwardFactors) ⌝ }
-    ensures { λ r. ⌜ Tells r (InverseAgrees (now (text .entry))) ⌝ }
+    ensures { λ r. ⌜ r ≡ inverseAgrees? (now (text .entry)) ⌝ }
 {
     let found = ring::inverse_with(element(text, 0), forward, backward);
-    if vectors::number(text, 1) != inverse_number(found.exists) {
-        return false;
-    }
     let value = found.value;
-    same_elements(value, element(text, 3))
+    (vectors::number(text, 1) == inverse_number(found.exists))
+        & same_elements(value, element(text, 3))
 }
 
 fn remainder_agrees(text: &[u8]) -> bool
-    ensures { λ r. ⌜ Tells r (RemainderAgrees (now (text .entry))) ⌝ }
+    ensures { λ r. ⌜ r ≡ remainderAgrees? (now (text .entry)) ⌝ }
 {
-    if vectors::number(text, 1) != 0 {
-        return false;
-    }
     let w = vectors::number(text, 0);
     if w >= 65536 {
         return false;
     }
-    integers_agree(
-        w as u16,
-        vectors::number(text, 3),
-        vectors::number(text, 4),
-        vectors::number(text, 5),
-    )
+    let m = vectors::number(text, 3);
+    let r = vectors::number(text, 4);
+    let k = vectors::number(text, 5);
+    (vectors::number(text, 1) == 0) & integers_agree(w as u16, m, r, k)
 }
 
 fn agrees(kind: Kind, text: &[u8], forward: &[u16], backward: &[u16]) -> bool
     requires { ⌜ (now forward ≡ forwardFactors) × (now backward ≡ backwardFactors) ⌝ }
-    ensures { λ r. ⌜ Tells r (Agrees kind (now (text .entry))) ⌝ }
+    ensures { λ r. ⌜ r ≡ agrees? kind (now (text .entry)) ⌝ }
 {
     match kind {
         Kind::Products => product_agrees(text, forward, backward),
@@ -157,20 +148,20 @@ fn agrees(kind: Kind, text: &[u8], forward: &[u16], backward: &[u16]) -> bool
 fn inverse_size(exists: bool) -> usize
     ensures { λ r. ⌜ r ≡ inverseSize exists ⌝ }
 {
-    if exists { 2048 } else { 0 }
+    if exists { ELEMENT_LENGTH } else { 0 }
 }
 
 fn is_case(kind: Kind, text: &[u8]) -> bool
-    ensures { λ r. ⌜ Tells r (Case kind (now (text .entry))) ⌝ }
+    ensures { λ r. ⌜ r ≡ case? kind (now (text .entry)) ⌝ }
 {
     match kind {
         Kind::Products => {
-            let sizes = [2048usize, 2048, 4, 0, 2048];
+            let sizes = [ELEMENT_LENGTH, ELEMENT_LENGTH, 4, 0, ELEMENT_LENGTH];
             vectors::has_sizes(text, &sizes)
         }
         Kind::Inverses => {
             let size = inverse_size(vectors::number(text, 1) == 0);
-            let sizes = [2048usize, 4, 0, size];
+            let sizes = [ELEMENT_LENGTH, 4, 0, size];
             vectors::has_sizes(text, &sizes)
         }
         Kind::Remainders => {
@@ -182,13 +173,13 @@ fn is_case(kind: Kind, text: &[u8]) -> bool
 
 fn judge(kind: Kind, text: &[u8], forward: &[u16], backward: &[u16]) -> Verdict
     requires { ⌜ (now forward ≡ forwardFactors) × (now backward ≡ backwardFactors) ⌝ }
-    ensures { λ r. ⌜ Judged (Case kind (now (text .entry))) (Agrees kind (now (text .entry))) r ⌝ }
+    ensures { λ r. ⌜ r ≡ verdict kind (now (text .entry)) ⌝ }
 {
     vectors::judged(is_case(kind, text), agrees(kind, text, forward, backward))
 }
 
 fn field_count(kind: Kind) -> usize
-    ensures { λ r. ⌜ 0 < r ⌝ }
+    ensures { λ r. ⌜ r ≡ fieldCount kind ⌝ }
 {
     match kind {
         Kind::Products => 5,
@@ -199,6 +190,7 @@ fn field_count(kind: Kind) -> usize
 
 fn judge_cases(kind: Kind, text: &[u8], forward: &[u16], backward: &[u16]) -> Report
     requires { ⌜ (now forward ≡ forwardFactors) × (now backward ≡ backwardFactors) ⌝ }
+    ensures { λ r. ⌜ r ≡ report (verdict kind) (fieldCount kind) (now (text .entry)) ⌝ }
 {
     let fields = field_count(kind);
     let mut report = Report::Counts(0, 0);
@@ -214,7 +206,9 @@ fn judge_cases(kind: Kind, text: &[u8], forward: &[u16], backward: &[u16]) -> Re
 
 // ---- files
 
-fn judge_file(kind: Kind, text: &[u8]) -> Report {
+fn judge_file(kind: Kind, text: &[u8]) -> Report
+    ensures { λ r. ⌜ r ≡ report (verdict kind) (fieldCount kind) (now (text .entry)) ⌝ }
+{
     let forward = ntt::forward_factors();
     let backward = ntt::backward_factors();
     judge_cases(kind, text, &forward, &backward)
@@ -224,7 +218,7 @@ fn check_file(kind: Kind, name: &[u8]) {
     let mut buffer = vectors::file_buffer();
     let read = vectors::read_file(name, &mut buffer);
     let report = judge_file(kind, vectors::read_bytes(read, &buffer));
-    vectors::print_report(name, read, report);
+    report_line::print(name, read, report);
 }
 
 fn main() {

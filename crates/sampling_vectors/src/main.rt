@@ -6,43 +6,56 @@ ghost use Prim.Native.Nat.{_<_};
 ghost use lib.ListN.{length};
 ghost use Rattle.sampling.specs.Noise.{noiseCoefficient};
 ghost use Rattle.sampling.specs.Stream.{taken};
-ghost use Rattle.vectors.specs.Answers.{Tells, Judged};
-ghost use Rattle.sampling_vectors.specs.Cases.{ElementAgrees, NoiseAgrees, KeysAgree, CaseAgrees, Fitting, Fits, Agrees};
+ghost use Rattle.records.specs.Layout.{publicKeyLength, secretKeyLength};
+ghost use Rattle.sampling_vectors.specs.Cases.{elementAgrees?, noiseAgrees?, keysAgree?, caseAgrees?, fits?, verdict, added, counts};
+use encoding::ELEMENT_LENGTH;
+use encoding::TERNARY_LENGTH;
 use libc::STDIN_FILENO;
 use libc::STDOUT_FILENO;
+use modq::Q;
+use ntt::DEGREE;
+use records::FIRST;
+use records::PUBLIC_KEY_LENGTH;
+use records::SECOND;
+use records::SECRET_KEY_LENGTH;
+use records::THIRD;
+use sampling::NOISE_LENGTH;
+use sampling::STREAM_LENGTH;
 use vectors::Verdict;
+
+const MINUS_ONE: u16 = Q - 1;
 
 // ---- a case
 
 fn element_agrees(stream: &[u8], public: &[u8]) -> bool
-    requires { ⌜ length (now public) ≡ 4101 ⌝ }
-    ensures { λ r. ⌜ Tells r (ElementAgrees (now (stream .entry)) (now (public .entry))) ⌝ }
+    requires { ⌜ length (now public) ≡ publicKeyLength ⌝ }
+    ensures { λ r. ⌜ r ≡ elementAgrees? (now (stream .entry)) (now (public .entry)) ⌝ }
 {
     let sample = sampling::uniform(stream);
     let a = sample.value;
-    let mut bytes = [0u8; 2048];
+    let mut bytes = [0u8; ELEMENT_LENGTH];
     encoding::encode_element(a, &mut bytes);
-    vectors::same(&bytes, &public[5..2053])
+    vectors::same(&bytes, &public[FIRST..SECOND])
 }
 
 fn noise_agrees(noise: &[u8], secret: &[u8]) -> bool
-    requires { ⌜ length (now secret) ≡ 4357 ⌝ }
-    ensures { λ r. ⌜ Tells r (NoiseAgrees (now (noise .entry)) (now (secret .entry))) ⌝ }
+    requires { ⌜ length (now secret) ≡ secretKeyLength ⌝ }
+    ensures { λ r. ⌜ r ≡ noiseAgrees? (now (noise .entry)) (now (secret .entry)) ⌝ }
 {
     let s = sampling::ternary(noise);
-    let mut bytes = [0u8; 256];
+    let mut bytes = [0u8; TERNARY_LENGTH];
     encoding::encode_ternary(s, &mut bytes);
-    vectors::same(&bytes, &secret[4101..4357])
+    vectors::same(&bytes, &secret[THIRD..SECRET_KEY_LENGTH])
 }
 
 // Whether both keys are there whole, and the samples are theirs.
 fn keys_agree(stream: &[u8], noise: &[u8], public: &[u8], secret: &[u8]) -> bool
-    ensures { λ r. ⌜ Tells r (KeysAgree (now (stream .entry)) (now (noise .entry)) (now (public .entry)) (now (secret .entry))) ⌝ }
+    ensures { λ r. ⌜ r ≡ keysAgree? (now (stream .entry)) (now (noise .entry)) (now (public .entry)) (now (secret .entry)) ⌝ }
 {
-    if public.len() != 4101 {
+    if public.len() != PUBLIC_KEY_LENGTH {
         return false;
     }
-    if secret.len() != 4357 {
+    if secret.len() != SECRET_KEY_LENGTH {
         return false;
     }
     if !element_agrees(stream, public) {
@@ -60,28 +73,25 @@ fn count(stream: &[u8]) -> usize
 }
 
 fn agrees(number: u32, stream: &[u8], noise: &[u8], public: &[u8], secret: &[u8]) -> bool
-    ensures { λ r. ⌜ Tells r (CaseAgrees number (now (stream .entry)) (now (noise .entry)) (now (public .entry)) (now (secret .entry))) ⌝ }
+    ensures { λ r. ⌜ r ≡ caseAgrees? number (now (stream .entry)) (now (noise .entry)) (now (public .entry)) (now (secret .entry)) ⌝ }
 {
     match number {
         0 => keys_agree(stream, noise, public, secret),
-        6 => count(stream) == 1024,
-        8 => count(stream) < 1024,
+        6 => count(stream) == DEGREE,
+        8 => count(stream) < DEGREE,
         _ => false,
     }
 }
 
 fn fitting(stream: &[u8], noise: &[u8]) -> bool
-    ensures { λ r. ⌜ Tells r (Fitting (now (stream .entry)) (now (noise .entry))) ⌝ }
+    ensures { λ r. ⌜ r ≡ fits? (now (stream .entry)) (now (noise .entry)) ⌝ }
 {
-    if stream.len() != 2688 {
-        return false;
-    }
-    noise.len() == 512
+    (stream.len() == STREAM_LENGTH) & (noise.len() == NOISE_LENGTH)
 }
 
 // Judges the first case of the text. A case with other lengths counts as malformed: key making refuses it, which is no matter of sampling.
 fn judge(text: &[u8]) -> Verdict
-    ensures { λ r. ⌜ Judged (Fits (now (text .entry))) (Agrees (now (text .entry))) r ⌝ }
+    ensures { λ r. ⌜ r ≡ verdict (now (text .entry)) ⌝ }
 {
     let stream = vectors::field(text, 0);
     let noise = vectors::field(text, 1);
@@ -94,41 +104,55 @@ fn judge(text: &[u8]) -> Verdict
 }
 
 struct Counts {
-    agreed: usize,
-    differed: usize,
-    passed_over: usize,
+    agreed: u64,
+    differed: u64,
+    skipped: u64,
 }
 
-fn judge_cases(text: &[u8]) -> Counts {
+// The counts with one verdict more.
+fn added(c: Counts, verdict: Verdict) -> Counts
+    ensures { λ r. ⌜ r ≡ added c verdict ⌝ }
+{
+    match verdict {
+        Verdict::Agreed => Counts {
+            agreed: vectors::one_more(c.agreed),
+            differed: c.differed,
+            skipped: c.skipped,
+        },
+        Verdict::Differed => Counts {
+            agreed: c.agreed,
+            differed: vectors::one_more(c.differed),
+            skipped: c.skipped,
+        },
+        Verdict::Malformed => Counts {
+            agreed: c.agreed,
+            differed: c.differed,
+            skipped: vectors::one_more(c.skipped),
+        },
+    }
+}
+
+fn judge_cases(text: &[u8]) -> Counts
+    ensures { λ r. ⌜ r ≡ counts (now (text .entry)) ⌝ }
+{
+    let mut counts = Counts {
+        agreed: 0,
+        differed: 0,
+        skipped: 0,
+    };
     let mut at = 0;
-    let mut agreed = 0;
-    let mut differed = 0;
-    let mut passed_over = 0;
     while at < text.len() {
-        match judge(&text[at..]) {
-            Verdict::Agreed => {
-                agreed += 1;
-            }
-            Verdict::Differed => {
-                differed += 1;
-            }
-            Verdict::Malformed => {
-                passed_over += 1;
-            }
-        }
+        let next = added(counts, judge(&text[at..]));
+        counts = next;
         at = vectors::after_case(text, at, 9);
     }
-    Counts {
-        agreed: agreed,
-        differed: differed,
-        passed_over: passed_over,
-    }
+    counts
 }
 
 // ---- what is printed
 
-fn print_count(count: usize, what: &[u8]) {
-    io::print_decimal(STDOUT_FILENO, count as u64);
+fn print_count(count: u64, what: &[u8]) {
+    io::print_decimal(STDOUT_FILENO, count);
     io::write_all(STDOUT_FILENO, what);
 }
 
@@ -136,7 +160,7 @@ fn print_counts(c: Counts) {
     io::write_all(STDOUT_FILENO, b"keys: ");
     print_count(c.agreed, b" agreed, ");
     print_count(c.differed, b" differed, ");
-    print_count(c.passed_over, b" with other lengths\n");
+    print_count(c.skipped, b" with other lengths\n");
 }
 
 // The coefficient of four bits, as the polynomial of one byte begins with it.
@@ -153,11 +177,11 @@ fn print_coefficient(t: u8) {
     io::write_all(STDOUT_FILENO, b"four bits ");
     io::print_decimal(STDOUT_FILENO, (t % 16) as u64);
     let c = coefficient(t % 16);
-    if c == 59392 {
+    if c == MINUS_ONE {
         io::write_all(STDOUT_FILENO, b": -1\n");
     } else {
         io::write_all(STDOUT_FILENO, b": ");
-        print_count(c as usize, b"\n");
+        print_count(c as u64, b"\n");
     }
 }
 
@@ -173,7 +197,7 @@ fn print_taken(low: u8, high: u8) {
     io::write_all(STDOUT_FILENO, b"word ");
     io::print_decimal(STDOUT_FILENO, encoding::word(low, high) as u64);
     io::write_all(STDOUT_FILENO, b": ");
-    print_count(count(&stream), b" taken\n");
+    print_count(count(&stream) as u64, b" taken\n");
 }
 
 fn main() {

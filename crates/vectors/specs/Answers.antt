@@ -1,9 +1,10 @@
 -- What the answers mean.
-use mathlib.Core.Path.{_≡_}
-use mathlib.Core.Bool.{Bool, true, cond}
-use mathlib.Core.List.{List, []}
+use mathlib.Core.Bool.{Bool, true, false, _&&_, cond}
+use mathlib.Core.List.{List, [], _∷_}
 use Prim.Native.Nat.{ℕ, _+_, _≤_, min}
-use lib.ListN.{length, take}
+use lib.Dec.{eqb}
+use lib.ListN.{length, take, drop}
+use Rattle.vectors.specs.Fields.{places}
 use Rattle.vectors.specs.declared.Contents.{Contents}
 use Rattle.vectors.specs.declared.Contents.the-variants.{Bytes, TooLong, Missing}
 use Rattle.vectors.specs.declared.Verdict.{Verdict}
@@ -11,15 +12,12 @@ use Rattle.vectors.specs.declared.Verdict.the-variants.{Agreed, Differed
 use Rattle.vectors.specs.declared.Report.{Report}
 use Rattle.vectors.specs.declared.Report.the-variants.{Counts, MalformedByte, MalformedLine}
 
--- true exactly when P holds
-abbrev pub Tells : Bool → Type 0 → Type 0
-Tells r P = (r ≡ true → P) × (P → r ≡ true)
-
--- malformed exactly when the fields are not those of the case, and else agreed exactly when the results agree
-abbrev pub Judged : Type 0 → Type 0 → Verdict → Type 0
-Judged Case Agrees Agreed = Case × Agrees
-Judged Case Agrees Differed = Case × (Agrees → ⊥)
-Judged Case Agrees Malformed = Case → ⊥
+-- whether two lists are the same
+unfoldable pub same? : (a b : List ℕ) → Bool
+same? [] [] = true
+same? [] (y ∷ b) = false
+same? (x ∷ a) [] = false
+same? (x ∷ a) (y ∷ b) = eqb x y && same? a b
 
 -- the verdict by whether a case is sound, and whether it agrees
 abbrev pub verdictOf : Bool → Bool → Verdict
@@ -48,3 +46,12 @@ counted (Counts agreed differed) Differed at = Counts agreed (oneMore differed)
 counted (Counts agreed differed) Malformed at = MalformedByte at
 counted (MalformedByte place) verdict at = MalformedByte place
 counted (MalformedLine place) verdict at = MalformedLine place
+
+-- a count over the cases at these places: `add` adds the verdict on each, which `judge` gives of the text from its place on
+unfoldable pub tally : {A : Type 0} (add : A → Verdict → ℕ → A) (judge : List ℕ → Verdict) (text : List ℕ) (so-far : A) (at : List ℕ) → A
+tally add judge text so-far [] = so-far
+tally add judge text so-far (at ∷ rest) = tally add judge text (add so-far (judge (drop at text)) at) rest
+
+-- the report on a text whose cases have so many fields
+abbrev pub report : (judge : List ℕ → Verdict) (fields : ℕ) (text : List ℕ) → Report
+report judge fields text = tally counted judge text (Counts 0 0) (places fields text)

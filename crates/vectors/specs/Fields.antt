@@ -1,10 +1,9 @@
 -- Files of test vectors: fields one behind the other. Each is the length of its bytes, as a word of four bytes, and then the bytes. Words
 -- have their low byte first. Every definition takes any text; in a word, bytes past the end of the text count as zero.
-use mathlib.Core.Path.{_≡_}
-use mathlib.Core.Bool.{Bool, true}
-use mathlib.Core.List.{List}
-use Prim.Native.Nat.{ℕ, zero, suc, _+_, _*_, _<_, min}
-use lib.Dec.{leb}
+use mathlib.Core.Bool.{Bool, true, _&&_, cond}
+use mathlib.Core.List.{List, [], _∷_}
+use Prim.Native.Nat.{ℕ, zero, suc, _+_, _*_, min}
+use lib.Dec.{leb, ltb, eqb}
 use lib.ListN.{length, getD, take, drop}
 
 -- the word that a text starts with; of a field's bytes, the number that it holds
@@ -28,10 +27,26 @@ field i text = take (word32 (drop (start i text) text)) (drop (start i text + 4)
 unfoldable pub hasField : ℕ → List ℕ → Bool
 hasField i text = leb (endFrom (start i text) text) (length text)
 
--- the text starts with whole fields of these sizes
-abbrev pub Sized : List ℕ → List ℕ → Type 0
-Sized sizes text = (i : ℕ) → i < length sizes → (hasField i text ≡ true) × (length (field i text) ≡ getD sizes i 0)
+-- whether the text has whole fields of these sizes, from field i on
+unfoldable pub sizedFrom : (i : ℕ) (sizes text : List ℕ) → Bool
+sizedFrom i [] text = true
+sizedFrom i (size ∷ sizes) text = hasField i text && eqb (length (field i text)) size && sizedFrom (suc i) sizes text
 
--- where the case of so many fields ends that starts at a place
-abbrev pub afterCase : ℕ → ℕ → List ℕ → ℕ
+-- whether the text starts with whole fields of these sizes
+abbrev pub sized? : (sizes text : List ℕ) → Bool
+sized? sizes text = sizedFrom 0 sizes text
+
+-- ---- cases: so many fields each, one case behind the other
+
+-- where the case ends that starts at a place
+abbrev pub afterCase : (fields at : ℕ) (text : List ℕ) → ℕ
 afterCase fields at text = at + start fields (drop at text)
+
+-- where the cases start, from a place on, as far as the text goes; at most so many
+unfoldable pub placesFrom : (most fields at : ℕ) (text : List ℕ) → List ℕ
+placesFrom zero fields at text = []
+placesFrom (suc most) fields at text = cond (ltb at (length text)) (at ∷ placesFrom most fields (afterCase fields at text) text) []
+
+-- where the cases of a text start; it has no more cases than bytes
+abbrev pub places : (fields : ℕ) (text : List ℕ) → List ℕ
+places fields text = placesFrom (length text) fields 0 text

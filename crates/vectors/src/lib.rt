@@ -1,11 +1,10 @@
-// What programs over files of test vectors share: the fields of a file, the verdict on a case, reading a file whole, and its line of report.
+// What programs over files of test vectors share: the fields of a file, the verdict on a case, and reading a file whole.
 ghost use mathlib.Core.Path.{_≡_};
 ghost use Rattle.lists.specs.Table.{zeros};
 ghost use Prim.Native.Nat.{_+_, _*_, _≤_, _<_, min};
 ghost use lib.ListN.{length, getD, replicate};
-ghost use Rattle.vectors.specs.Fields.{word32, endFrom, start, field, hasField, Sized, afterCase};
-ghost use Rattle.vectors.specs.Answers.{Tells, verdictOf, Within, bytesRead, oneMore, counted};
-use libc::STDOUT_FILENO;
+ghost use Rattle.vectors.specs.Fields.{word32, endFrom, start, field, hasField, sized?, afterCase};
+ghost use Rattle.vectors.specs.Answers.{same?, verdictOf, Within, bytesRead, oneMore, counted};
 
 // ---- fields
 
@@ -79,7 +78,7 @@ pub fn has_field(text: &[u8], i: usize) -> bool
 
 // Whether the text starts with whole fields of these sizes.
 pub fn has_sizes(text: &[u8], sizes: &[usize]) -> bool
-    ensures { λ r. ⌜ Tells r (Sized (now (sizes .entry)) (now (text .entry))) ⌝ }
+    ensures { λ r. ⌜ r ≡ sized? (now (sizes .entry)) (now (text .entry)) ⌝ }
 {
     for k in 0..sizes.len() {
         if !has_field(text, k) {
@@ -101,7 +100,7 @@ pub fn after_case(text: &[u8], at: usize, fields: usize) -> usize
 }
 
 pub fn same(a: &[u8], b: &[u8]) -> bool
-    ensures { λ r. ⌜ Tells r (now (a .entry) ≡ now (b .entry)) ⌝ }
+    ensures { λ r. ⌜ r ≡ same? (now (a .entry)) (now (b .entry)) ⌝ }
 {
     if a.len() != b.len() {
         return false;
@@ -125,7 +124,7 @@ pub fn fill(buffer: &mut [u8], value: u8)
 }
 
 pub fn is_filled(buffer: &[u8], value: u8) -> bool
-    ensures { λ r. ⌜ Tells r (now (buffer .entry) ≡ replicate (length (now (buffer .entry))) value) ⌝ }
+    ensures { λ r. ⌜ r ≡ same? (now (buffer .entry)) (replicate (length (now (buffer .entry))) value) ⌝ }
 {
     for k in 0..buffer.len() {
         if buffer[k] != value {
@@ -168,7 +167,8 @@ pub enum Report {
     MalformedLine(usize),
 }
 
-fn one_more(count: u64) -> u64
+// The largest count stays.
+pub fn one_more(count: u64) -> u64
     ensures { λ r. ⌜ r ≡ oneMore count ⌝ }
 {
     if count < 18446744073709551615 {
@@ -252,52 +252,5 @@ pub fn read_bytes(read: Contents, buffer: &[u8]) -> &[u8]
         Contents::Bytes(n) => &buffer[..lesser(n, buffer.len())],
         Contents::TooLong => &buffer[..0],
         Contents::Missing => &buffer[..0],
-    }
-}
-
-// ---- the line of a file
-
-fn print_malformed(at: &[u8], place: usize) {
-    io::write_all(STDOUT_FILENO, b"malformed at ");
-    io::write_all(STDOUT_FILENO, at);
-    io::print_decimal(STDOUT_FILENO, place as u64);
-    io::write_all(STDOUT_FILENO, b"\n");
-}
-
-// A file without a case is malformed from its start.
-fn print_counts(agreed: u64, differed: u64) {
-    if agreed == 0 && differed == 0 {
-        print_malformed(b"byte ", 0);
-        return;
-    }
-    io::print_decimal(STDOUT_FILENO, agreed);
-    io::write_all(STDOUT_FILENO, b" agreed, ");
-    io::print_decimal(STDOUT_FILENO, differed);
-    io::write_all(STDOUT_FILENO, b" differed\n");
-}
-
-fn print_judged(r: Report) {
-    match r {
-        Report::Counts(agreed, differed) => print_counts(agreed, differed),
-        Report::MalformedByte(at) => print_malformed(b"byte ", at),
-        Report::MalformedLine(at) => print_malformed(b"line ", at),
-    }
-}
-
-// Prints the line of a file: the report, where it was read. What stands on the standard output no contract can say; what is lent stays
-// as it was.
-pub fn print_report(name: &[u8], read: Contents, r: Report)
-    ensures { λ _. ⌜ now (name .exit) ≡ now (name .entry) ⌝ }
-{
-    io::write_all(STDOUT_FILENO, name);
-    io::write_all(STDOUT_FILENO, b": ");
-    match read {
-        Contents::Bytes(_) => print_judged(r),
-        Contents::TooLong => {
-            io::write_all(STDOUT_FILENO, b"too long\n");
-        }
-        Contents::Missing => {
-            io::write_all(STDOUT_FILENO, b"missing\n");
-        }
     }
 }

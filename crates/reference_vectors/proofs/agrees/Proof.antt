@@ -1,5 +1,3 @@
-use Rattle.reference_vectors.specs.declared.Kind.the-variants.{CheckSecretKey, Keygen, Writing, Noise, Desk}
-use Rattle.reference_vectors.proofs.Agreement.{agrees-of}
 use borrow.Author.Needs.{needs}
 use Rattle.reference_vectors.proofs.agrees.Statement.{statement}
 use Rattle.reference_vectors.proofs.agrees.Tie as tie
@@ -35,19 +33,19 @@ desk-agrees-requires : tie.Need-desk-agrees-requires
 desk-agrees-requires c κs = search needs
 
 returns : tie.Need-returns
-returns c = agrees-of CheckSecretKey _ _ (c .before .enum-told .given .1) (c .check-agrees .ensures)
+returns c = rw (c .before .enum-told .given .1) (c .check-agrees .ensures)
 
 returns-2 : tie.Need-returns-2
-returns-2 c = agrees-of Keygen _ _ (c .before .enum-told2 .given .1) (c .keygen-case-agrees .ensures)
+returns-2 c = rw (c .before .enum-told2 .given .1) (c .keygen-case-agrees .ensures)
 
 returns-3 : tie.Need-returns-3
-returns-3 c = agrees-of (Writing _) _ _ (c .before .before .kind .given .1) (c .call-case-agrees .ensures)
+returns-3 c = rw (c .before .before .kind .given .1) (c .call-case-agrees .ensures)
 
 returns-4 : tie.Need-returns-4
-returns-4 c = agrees-of Noise _ _ (c .before .enum-told3 .given .1) (c .noise-agrees .ensures)
+returns-4 c = rw (c .before .enum-told3 .given .1) (c .noise-agrees .ensures)
 
 returns-5 : tie.Need-returns-5
-returns-5 c = agrees-of Desk _ _ (c .before .enum-told4 .given .1) (c .desk-agrees .ensures)
+returns-5 c = rw (c .before .enum-told4 .given .1) (c .desk-agrees .ensures)
 
 pub agrees-spec : {M : Type 1} → statement M
 agrees-spec =

@@ -4,8 +4,8 @@ use Prim.Native.Nat.{ℕ, _+_}
 use lib.ListN.{length}
 use denote.Ref.{now}
 use Rattle.vectors.specs.Fields.{word32, field}
-use Rattle.reference_vectors.specs.Cases.{callAnswer, callOut, CallAgrees}
-use Rattle.reference_vectors.proofs.Agreement.{ap₄, answer-agrees-as}
+use Rattle.reference_vectors.specs.Cases.{answerAgrees?, callAnswer, callOut, outAfter, callAgrees?}
+use Rattle.reference_vectors.proofs.Agreement.{ap₄}
 use borrow.Author.Needs.{needs}
 use Rattle.reference_vectors.proofs.call_agrees.Statement.{statement}
 use Rattle.reference_vectors.proofs.call_agrees.Tie as tie
@@ -47,7 +47,7 @@ same-length : tie.Need-same-length
 same-length c = search needs
 
 returns : tie.Need-returns
-unfolding CallAgrees
+unfolding callAgrees? outAfter
 returns c =
     let told = c .before .before .before in
     let place = told .before in
@@ -59,13 +59,15 @@ returns c =
     let y = inputs .before .field2 .ensures in
     let z = inputs .field3 .ensures in
     let out = filled .fill .ensures in
-    answer-agrees-as _
-    (ran .run .ensures .0
-    ∙ ap₄ (λ (x y z out : List ℕ). callAnswer (args .call) x y z (length out)) x y z out)
-    (told .number .ensures ∙ ap (λ (k : ℕ). word32 (field (k + 1) (now (args .text)))) (place .size-field .ensures .0))
-    (c .before .before .field4 .ensures ∙ ap (λ (k : ℕ). field (k + 3) (now (args .text))) (place .size-field .ensures .0))
-    (ran .run .ensures .1 ∙ ap₄ (callOut (args .call)) x y z out)
-    (c .answer-agrees .ensures)
+    let out-is = ran .run .ensures .1 ∙ ap₄ (callOut (args .call)) x y z out in (
+      c .answer-agrees .ensures
+          ∙ ap₄ answerAgrees?
+          (ran .run .ensures .0 ∙ ap₄ (λ (x y z out : List ℕ). callAnswer (args .call) x y z (length out)) x y z out)
+          (told .number .ensures ∙ ap (λ (k : ℕ). word32 (field (k + 1) (now (args .text)))) (place .size-field .ensures .0))
+          (c .before .before .field4 .ensures ∙ ap (λ (k : ℕ). field (k + 3) (now (args .text))) (place .size-field .ensures .0))
+          out-is,
+      out-is,
+    )
 
 pub call-agrees-spec : {M : Type 1} → statement M
 call-agrees-spec =

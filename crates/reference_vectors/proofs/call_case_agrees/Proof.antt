@@ -1,10 +1,7 @@
-use mathlib.Core.Path.{ap, subst, _∙_}
-use mathlib.Core.List.{List}
+use mathlib.Core.Path.{ap, _∙_}
 use Prim.Native.Nat.{ℕ}
-use native.Mathlib.Omega.{arith}
 use denote.Ref.{now}
-use Rattle.vectors.specs.Answers.{Tells}
-use Rattle.reference_vectors.specs.Cases.{room, sizeField, CallAgrees}
+use Rattle.reference_vectors.specs.Cases.{room, sizeField, callAgrees?}
 use Rattle.reference_vectors.proofs.Agreement.{filled-output}
 use borrow.Author.Needs.{needs}
 use Rattle.reference_vectors.proofs.call_case_agrees.Statement.{statement}
@@ -34,13 +31,11 @@ call-agrees-requires c κs = search needs
 returns : tie.Need-returns
 returns c =
     let sized = c .before .before .before in
-    let args = sized .before .before .before .before .args in
-    let place = sized .before .size-field .ensures .0 in
-    subst (λ (out : List ℕ). Tells (c .before .call-agrees .result) (CallAgrees (args .call) (now (args .text)) out))
-    (filled-output (sizeField (args .call)) (now (args .text)) _
-    (sized .room .ensures .0 ∙ ap (λ (k : ℕ). room k (now (args .text))) place)
-    (omega (arith, sized .room .ensures .1, sized .before .before .output-buffer .ensures)))
-    (c .before .call-agrees .ensures)
+    let place = sized .before in
+    let args = place .before .before .before .args in
+    let text = now (args .text) in
+    let size = sized .room .ensures .0 ∙ ap (λ (k : ℕ). room k text) (place .size-field .ensures .0) in
+    c .before .call-agrees .ensures .0 ∙ ap (callAgrees? (args .call) text) (filled-output (sizeField (args .call)) text size (place .before .output-buffer .ensures))
 
 pub call-case-agrees-spec : {M : Type 1} → statement M
 call-case-agrees-spec =

@@ -1,10 +1,11 @@
-use mathlib.Core.Path.{ap, _∙_}
+use mathlib.Core.Path.{ap, ap₂, _∙_}
+use lib.Dec.{eqb}
 use Rattle.records.specs.Answers.{number}
 use Rattle.calls.specs.Calls.{checkAnswer}
-use Rattle.vectors.proofs.Answers.{tells-as, tells-equal}
 use borrow.Author.Needs.{needs}
 use Rattle.reference_vectors.proofs.check_agrees.Statement.{statement}
 use Rattle.reference_vectors.proofs.check_agrees.Tie as tie
+use Rattle.vectors.proofs.number.Reads as number-reads′
 
 field-requires : tie.Need-field-requires
 field-requires c κs = search needs
@@ -21,17 +22,10 @@ number-requires-2 c κs = search needs
 returns : tie.Need-returns
 returns c =
     let checked = c .before in
-    tells-as _
-    (checked .number .ensures ∙ ap number (checked .before .check-secret-key .ensures .0 ∙ ap checkAnswer (checked .before .before .field .ensures)))
-    (c .number2 .ensures)
-    (tells-equal _ _)
+    let found = checked .number .ensures ∙ ap number (checked .before .check-secret-key .ensures .0 ∙ ap checkAnswer (checked .before .before .field .ensures)) in
+    ap₂ eqb found (c .number2 .ensures)
 
 pub check-agrees-spec : {M : Type 1} → statement M
 check-agrees-spec =
     tie.close
-    (tie.spec
-    field-requires
-    check-secret-key-requires
-    number-requires
-    number-requires-2
-    returns)
+    (tie.spec field-requires check-secret-key-requires number-requires number-requires-2 returns)

@@ -1,11 +1,11 @@
-use mathlib.Core.Path.{_≡_, ap, _∙_}
+use mathlib.Core.Path.{_≡_, ap, ap₂, _∙_}
 use mathlib.Core.List.{List}
 use Prim.Native.Nat.{ℕ, _-_, _≤_}
 use native.Mathlib.Nat.{sub-zero}
 use native.Mathlib.Omega.{arith}
 use lib.ListN.{length}
 use Rattle.desk_line.specs.Line.{deskLine}
-use Rattle.vectors.proofs.Answers.{tells-as}
+use Rattle.vectors.specs.Answers.{same?}
 use Rattle.reference_vectors.specs.Cases.{withoutFeed}
 use Rattle.reference_vectors.proofs.Agreement.{line-text, line-some}
 use borrow.Author.Needs.{needs}
@@ -48,11 +48,10 @@ returns c =
     let input = made .before .field .ensures in
     let told : List ℕ = deskLine (made .before .field .result .now) in
     let room : length told ≤ 35 = omega (arith, line .ensures .1 .0, line .ensures .1 .1) in
-    tells-as _
-    (line-text told (line .result .bytes) _ (line .ensures .0) room (sub-zero (line .result .length - 1) ∙ ap (λ (k : ℕ). k - 1) (line .ensures .1 .0))
-    ∙ ap (λ (l : List ℕ). withoutFeed (deskLine l)) input)
-    (c .before .field2 .ensures)
-    (c .same .ensures)
+    let found =
+    line-text told (line .result .bytes) _ (line .ensures .0) room (sub-zero (line .result .length - 1) ∙ ap (λ (k : ℕ). k - 1) (line .ensures .1 .0))
+    ∙ ap (λ (l : List ℕ). withoutFeed (deskLine l)) input in
+    c .same .ensures ∙ ap₂ same? found (c .before .field2 .ensures)
 
 pub desk-agrees-spec : {M : Type 1} → statement M
 desk-agrees-spec =

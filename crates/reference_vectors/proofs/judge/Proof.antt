@@ -1,8 +1,9 @@
-use mathlib.Core.Path.{sym, ap, _∙_}
+use mathlib.Core.Path.{ap, ap₂, _∙_}
 use Prim.Native.Nat.{ℕ}
 use denote.Ref.{now}
 use Rattle.vectors.specs.Fields.{hasField}
-use Rattle.vectors.proofs.Answers.{judged}
+use Rattle.vectors.specs.Answers.{verdictOf}
+use Rattle.reference_vectors.specs.Cases.{verdict}
 use borrow.Author.Needs.{needs}
 use Rattle.reference_vectors.proofs.judge.Statement.{statement}
 use Rattle.reference_vectors.proofs.judge.Tie as tie
@@ -20,11 +21,12 @@ judged-requires : tie.Need-judged-requires
 judged-requires c κs = search needs
 
 returns : tie.Need-returns
+unfolding verdict
 returns c =
     let tested = c .before .before in
     let text = now (tested .before .before .before .args .text) in
     let whole = tested .has-field .ensures ∙ ap (λ (k : ℕ). hasField k text) (tested .before .last-field .ensures .0) in
-    rw (c .judged .ensures) (judged _ _ (λ e. sym whole ∙ e, λ h. whole ∙ h) (c .before .agrees .ensures))
+    c .judged .ensures ∙ ap₂ verdictOf whole (c .before .agrees .ensures)
 
 pub judge-spec : {M : Type 1} → statement M
 judge-spec =

@@ -1,10 +1,10 @@
-use mathlib.Core.Path.{_∙_}
+use mathlib.Core.Path.{refl, _∙_}
 use mathlib.Core.List.{List}
 use Prim.Native.Nat.{ℕ}
 use lib.ListN.{length}
 use Rattle.calls.specs.Calls.{keygenAnswer, keygenPublic, keygenSecret}
-use Rattle.reference_vectors.specs.Cases.{KeygenAgrees}
-use Rattle.reference_vectors.proofs.Agreement.{ap₅, keys-agree-as}
+use Rattle.reference_vectors.specs.Cases.{keysAgree?, publicAfter, secretAfter, keygenAgrees?}
+use Rattle.reference_vectors.proofs.Agreement.{ap₄, ap₅}
 use borrow.Author.Needs.{needs}
 use Rattle.reference_vectors.proofs.keygen_agrees.Statement.{statement}
 use Rattle.reference_vectors.proofs.keygen_agrees.Tie as tie
@@ -37,7 +37,7 @@ same-length-2 : tie.Need-same-length-2
 same-length-2 c = search needs
 
 returns : tie.Need-returns
-unfolding KeygenAgrees
+unfolding keygenAgrees? publicAfter secretAfter
 returns c =
     let made = c .before .before .before .before .before .before .before in
     let inputs = made .before .before .before in
@@ -47,12 +47,11 @@ returns c =
     let z = inputs .field3 .ensures in
     let public = filled .before .before .before .before .fill .ensures in
     let secret = filled .fill2 .ensures in
-    keys-agree-as _ _
-    (made .keygen .ensures .0
-    ∙ ap₅ (λ (x y z public secret : List ℕ). keygenAnswer x y z (length public) (length secret)) x y z public secret)
-    (made .keygen .ensures .1 .0 ∙ ap₅ keygenPublic x y z public secret)
-    (made .keygen .ensures .1 .1 ∙ ap₅ keygenSecret x y z public secret)
-    (c .keys-agree .ensures)
+    let answer-is =
+    made .keygen .ensures .0 ∙ ap₅ (λ (x y z public secret : List ℕ). keygenAnswer x y z (length public) (length secret)) x y z public secret in
+    let public-is = made .keygen .ensures .1 .0 ∙ ap₅ keygenPublic x y z public secret in
+    let secret-is = made .keygen .ensures .1 .1 ∙ ap₅ keygenSecret x y z public secret in
+    (c .keys-agree .ensures ∙ ap₄ keysAgree? refl answer-is public-is secret-is, (public-is, secret-is))
 
 pub keygen-agrees-spec : {M : Type 1} → statement M
 keygen-agrees-spec =

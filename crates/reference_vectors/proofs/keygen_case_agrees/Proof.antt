@@ -1,6 +1,7 @@
-use native.Mathlib.Omega.{arith}
+use mathlib.Core.Path.{ap₂, _∙_}
 use denote.Ref.{now}
-use Rattle.reference_vectors.proofs.Agreement.{keygen-agrees-as, filled-output}
+use Rattle.reference_vectors.specs.Cases.{keygenAgrees?}
+use Rattle.reference_vectors.proofs.Agreement.{filled-output}
 use borrow.Author.Needs.{needs}
 use Rattle.reference_vectors.proofs.keygen_case_agrees.Statement.{statement}
 use Rattle.reference_vectors.proofs.keygen_case_agrees.Tie as tie
@@ -45,10 +46,10 @@ returns c =
     let first = second .before in
     let secrets = first .before in
     let text = now (secrets .before .before .before .args .text) in
-    keygen-agrees-as text _
-    (filled-output 3 text _ (first .room .ensures .0) (omega (arith, first .room .ensures .1, secrets .before .output-buffer .ensures)))
-    (filled-output 4 text _ (second .room2 .ensures .0) (omega (arith, second .room2 .ensures .1, secrets .output-buffer2 .ensures)))
-    (judged .keygen-agrees .ensures)
+    judged .keygen-agrees .ensures .0
+    ∙ ap₂ (keygenAgrees? text)
+    (filled-output 3 text (first .room .ensures .0) (secrets .before .output-buffer .ensures))
+    (filled-output 4 text (second .room2 .ensures .0) (secrets .output-buffer2 .ensures))
 
 pub keygen-case-agrees-spec : {M : Type 1} → statement M
 keygen-case-agrees-spec =

@@ -1,8 +1,3 @@
-use denote.Ref.{now}
-use Rattle.vectors.proofs.Answers.{tells-of}
-use Rattle.ring_vectors.specs.declared.Kind.{Kind}
-use Rattle.ring_vectors.specs.declared.Kind.the-variants.{Products, Inverses, Remainders}
-use Rattle.ring_vectors.specs.Cases.{Agrees}
 use borrow.Author.Needs.{needs}
 use Rattle.ring_vectors.proofs.agrees.Statement.{statement}
 use Rattle.ring_vectors.proofs.agrees.Tie as tie
@@ -26,19 +21,13 @@ remainder-agrees-requires : tie.Need-remainder-agrees-requires
 remainder-agrees-requires c κs = search needs
 
 returns : tie.Need-returns
-returns c =
-    let text = now (c .before .before .before .before .before .before .args .text) in
-    tells-of (λ (k : Kind). Agrees k text) Products _ (c .before .enum-told .given .1) (c .product-agrees .ensures)
+returns c = rw (c .before .enum-told .given .1) (c .product-agrees .ensures)
 
 returns-2 : tie.Need-returns-2
-returns-2 c =
-    let text = now (c .before .before .before .before .before .before .args .text) in
-    tells-of (λ (k : Kind). Agrees k text) Inverses _ (c .before .enum-told2 .given .1) (c .inverse-agrees .ensures)
+returns-2 c = rw (c .before .enum-told2 .given .1) (c .inverse-agrees .ensures)
 
 returns-3 : tie.Need-returns-3
-returns-3 c =
-    let text = now (c .before .before .before .before .before .before .args .text) in
-    tells-of (λ (k : Kind). Agrees k text) Remainders _ (c .before .enum-told3 .given .1) (c .remainder-agrees .ensures)
+returns-3 c = rw (c .before .enum-told3 .given .1) (c .remainder-agrees .ensures)
 
 pub agrees-spec : {M : Type 1} → statement M
 agrees-spec =

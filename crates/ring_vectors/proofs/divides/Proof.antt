@@ -1,6 +1,6 @@
-use Rattle.vectors.proofs.Answers.{tells-as, tells-equal}
 use mathlib.Core.Path.{ap, ap₂}
 use Prim.Native.Nat.{ℕ, _+_, _*_}
+use lib.Dec.{eqb}
 use borrow.Author.Needs.{needs}
 use Rattle.ring_vectors.proofs.divides.Statement.{statement}
 use Rattle.ring_vectors.proofs.divides.Tie as tie
@@ -28,7 +28,7 @@ returns c =
     let second = c .before in
     let left = ap (λ (x : ℕ). x + 10737418240) (second .before .raised .ensures .0) in
     let right = ap₂ (λ (x y : ℕ). x + 5 * y) (second .raised2 .ensures .0) (c .raised3 .ensures .0) in
-    tells-as _ left right (tells-equal _ _)
+    ap₂ eqb left right
 
 pub divides-spec : {M : Type 1} → statement M
 divides-spec =

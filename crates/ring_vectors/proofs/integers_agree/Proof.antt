@@ -1,13 +1,10 @@
+use mathlib.Core.Path.{ap, ap₂, _∙_}
+use mathlib.Core.Bool.{_&&_}
 use mir.Val.{SFits}
 use mir.ValLaws.{toZ-ofZ}
 use mir.Syntax.{w32}
-use Rattle.vectors.specs.Answers.{Tells}
-use Rattle.ring_vectors.specs.Cases.{signed}
-use Rattle.ring.specs.Centred.{centred, centredRemainder}
-use mathlib.Core.Path.{_≡_, ap, _∙_}
-use borrow.Author.Tests.{not-true, not-false}
-use Rattle.vectors.proofs.Answers.{tells-no, told-no}
-use Rattle.ring_vectors.proofs.Words.{tells-integers}
+use Rattle.ring.specs.Centred.{centredRemainder}
+use Rattle.ring_vectors.proofs.Words.{compared-as}
 use borrow.Author.Needs.{needs}
 use Rattle.ring_vectors.proofs.integers_agree.Statement.{statement}
 use Rattle.ring_vectors.proofs.integers_agree.Tie as tie
@@ -21,25 +18,6 @@ signed-requires c κs = search needs
 same-integers-requires : tie.Need-same-integers-requires
 same-integers-requires c κs = search needs
 
-first : (c : tie.After-same-integers) → Tells (c .same-integers .result) (centred (c .before .before .before .args .w) ≡ signed (c .before .before .before .args .m))
-first c =
-    let d = c .before .before .centred in
-    let s = c .before .signed in
-    tells-integers _ (record { sfits = d .ok }) (record { sfits = s .ok }) (d .ensures) (s .ensures) (c .same-integers .ensures)
-
-second : (c : tie.After-same-integers2)
-    → Tells (c .same-integers2 .result) (centredRemainder (centred (c .before .before .before .before .before .before .before .args .w)) ≡ signed (c .before .before .before .before .before .before .before .args .r))
-second c =
-    let d = c .before .before .before .before .before .before .centred in
-    let e = c .before .before .centred-remainder in
-    let s = c .before .signed2 in
-    let fits : SFits w32 (d .result) = record { sfits = d .ok } in
-    let e-is = e .ensures ∙ ap centredRemainder (toZ-ofZ w32 (d .result) fits ∙ d .ensures) in
-    tells-integers _ (record { sfits = e .ok }) (record { sfits = s .ok }) e-is (s .ensures) (c .same-integers2 .ensures)
-
-returns : tie.Need-returns
-returns c = tells-no (λ a. told-no _ (first (c .before)) (not-true _ (c .if1 .taken)) (a .0))
-
 centred-remainder-requires : tie.Need-centred-remainder-requires
 centred-remainder-requires c κs = search needs
 
@@ -49,19 +27,24 @@ signed-requires-2 c κs = search needs
 same-integers-requires-2 : tie.Need-same-integers-requires-2
 same-integers-requires-2 c κs = search needs
 
-returns-2 : tie.Need-returns-2
-returns-2 c = tells-no (λ a. told-no _ (second (c .before)) (not-true _ (c .if2 .taken)) (a .1))
-
 divides-requires : tie.Need-divides-requires
 divides-requires c κs = search needs
 
-returns-3 : tie.Need-returns-3
-returns-3 c =
-    let e2 = c .before in
-    let e1 = e2 .before .before .before .before in
-    let p = first (e1 .before) .0 (not-false _ (e1 .if1 .left)) in
-    let q = second (e2 .before) .0 (not-false _ (e2 .if2 .left)) in
-    (λ e. (p, q, c .divides .ensures .0 e), λ a. c .divides .ensures .1 (a .2))
+returns : tie.Need-returns
+returns c =
+    let second = c .before in
+    let first = second .before .before .before in
+    let m = first .before .before .centred in
+    let r = second .before .before .centred-remainder in
+    let fits : SFits w32 (m .result) = record { sfits = m .ok } in
+    let r-is = r .ensures ∙ ap centredRemainder (toZ-ofZ w32 (m .result) fits ∙ m .ensures) in
+    let m-told = first .before .signed in
+    let r-told = second .before .signed2 in
+    ap₂ _&&_
+    (ap₂ _&&_
+    (compared-as _ fits (record { sfits = m-told .ok }) (m .ensures) (m-told .ensures) (first .same-integers .ensures))
+    (compared-as _ (record { sfits = r .ok }) (record { sfits = r-told .ok }) r-is (r-told .ensures) (second .same-integers2 .ensures)))
+    (c .divides .ensures)
 
 pub integers-agree-spec : {M : Type 1} → statement M
 integers-agree-spec =
@@ -70,10 +53,8 @@ integers-agree-spec =
     centred-requires
     signed-requires
     same-integers-requires
-    returns
     centred-remainder-requires
     signed-requires-2
     same-integers-requires-2
-    returns-2
     divides-requires
-    returns-3)
+    returns)

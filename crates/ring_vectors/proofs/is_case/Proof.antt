@@ -1,14 +1,4 @@
-use mathlib.Core.Path.{ap, subst, _∙_}
-use mathlib.Core.List.{[], _∷_}
-use Prim.Native.Nat.{ℕ}
-use denote.Ref.{now}
-use lib.Dec.{eqb}
-use Rattle.vectors.specs.Fields.{Sized}
-use Rattle.vectors.specs.Answers.{Tells}
-use Rattle.vectors.proofs.Answers.{tells-of}
-use Rattle.ring_vectors.specs.declared.Kind.{Kind}
-use Rattle.ring_vectors.specs.declared.Kind.the-variants.{Products, Inverses, Remainders}
-use Rattle.ring_vectors.specs.Cases.{inverseSize, Case}
+use mathlib.Core.Path.{_∙_}
 use borrow.Author.Needs.{needs}
 use Rattle.ring_vectors.proofs.is_case.Statement.{statement}
 use Rattle.ring_vectors.proofs.is_case.Tie as tie
@@ -47,22 +37,15 @@ has-sizes-requires-3 : tie.Need-has-sizes-requires-3
 has-sizes-requires-3 c κs = search needs
 
 returns : tie.Need-returns
-returns c =
-    let text = now (c .before .before .before .before .before .args .text) in
-    tells-of (λ (k : Kind). Case k text) Products _ (c .before .before .enum-told .given .1) (c .has-sizes .ensures)
+returns c = rw (c .before .before .enum-told .given .1) (c .has-sizes .ensures)
 
 returns-2 : tie.Need-returns-2
 returns-2 c =
     let sized = c .before .before in
-    let text = now (sized .before .before .before .before .before .args .text) in
-    let size = sized .inverse-size .ensures ∙ ap (λ (k : ℕ). inverseSize (eqb k 0)) (sized .before .number .ensures) in
-    tells-of (λ (k : Kind). Case k text) Inverses _ (sized .before .before .enum-told2 .given .1)
-    (subst (λ (k : ℕ). Tells (c .has-sizes2 .result) (Sized (2048 ∷ 4 ∷ 0 ∷ k ∷ []) text)) size (c .has-sizes2 .ensures))
+    rw (sized .before .before .enum-told2 .given .1) (c .has-sizes2 .ensures ∙ rw (sized .inverse-size .ensures, sized .before .number .ensures))
 
 returns-3 : tie.Need-returns-3
-returns-3 c =
-    let text = now (c .before .before .before .before .before .args .text) in
-    tells-of (λ (k : Kind). Case k text) Remainders _ (c .before .before .enum-told3 .given .1) (c .has-sizes3 .ensures)
+returns-3 c = rw (c .before .before .enum-told3 .given .1) (c .has-sizes3 .ensures)
 
 pub is-case-spec : {M : Type 1} → statement M
 is-case-spec =

@@ -1,4 +1,5 @@
-use Rattle.vectors.proofs.Answers.{judged}
+use mathlib.Core.Path.{ap₂, _∙_}
+use Rattle.vectors.specs.Answers.{verdictOf}
 use borrow.Author.Needs.{needs}
 use Rattle.ring_vectors.proofs.judge.Statement.{statement}
 use Rattle.ring_vectors.proofs.judge.Tie as tie
@@ -13,7 +14,7 @@ judged-requires : tie.Need-judged-requires
 judged-requires c κs = search needs
 
 returns : tie.Need-returns
-returns c = rw (c .judged .ensures) (judged _ _ (c .before .before .is-case .ensures) (c .before .agrees .ensures))
+returns c = c .judged .ensures ∙ ap₂ verdictOf (c .before .before .is-case .ensures) (c .before .agrees .ensures)
 
 pub judge-spec : {M : Type 1} → statement M
 judge-spec = tie.close (tie.spec is-case-requires agrees-requires judged-requires returns)

@@ -1,15 +1,12 @@
-use mathlib.Core.Path.{sym, ap₂, _∙_}
+use mathlib.Core.Path.{ap, ap₂, _∙_}
+use mathlib.Core.Bool.{_&&_}
+use Prim.Native.Nat.{ℕ}
+use lib.Dec.{eqb}
 use Rattle.ring.specs.Ring.{product}
-use Rattle.vectors.proofs.Answers.{tells-no, tells-both, tells-as}
+use Rattle.vectors.specs.Answers.{same?}
 use borrow.Author.Needs.{needs}
 use Rattle.ring_vectors.proofs.product_agrees.Statement.{statement}
 use Rattle.ring_vectors.proofs.product_agrees.Tie as tie
-
-number-requires : tie.Need-number-requires
-number-requires c κs = search needs
-
-returns : tie.Need-returns
-returns c = tells-no (λ a. c .if1 .taken (c .before .number .ensures ∙ a .0))
 
 element-requires : tie.Need-element-requires
 element-requires c κs = search needs
@@ -23,25 +20,26 @@ element-requires-3 c κs = search needs
 product-with-requires : tie.Need-product-with-requires
 product-with-requires c κs = search needs
 
+number-requires : tie.Need-number-requires
+number-requires c κs = search needs
+
 same-elements-requires : tie.Need-same-elements-requires
 same-elements-requires c κs = search needs
 
-returns-2 : tie.Need-returns-2
-returns-2 c =
-    let third = c .before .before in
-    let zero = third .before .before .before in
-    let found = c .before .product-with .ensures ∙ ap₂ product (third .before .before .element .ensures) (third .before .element2 .ensures) in
-    tells-both _ (sym (zero .before .number .ensures) ∙ zero .if1 .left) (tells-as _ found (third .element3 .ensures) (c .same-elements .ensures))
+returns : tie.Need-returns
+returns c =
+    let third = c .before .before .before in
+    let found = c .before .before .product-with .ensures ∙ ap₂ product (third .before .before .element .ensures) (third .before .element2 .ensures) in
+    ap₂ _&&_ (ap (λ (k : ℕ). eqb k 0) (c .before .number .ensures)) (c .same-elements .ensures ∙ ap₂ same? found (third .element3 .ensures))
 
 pub product-agrees-spec : {M : Type 1} → statement M
 product-agrees-spec =
     tie.close
     (tie.spec
-    number-requires
-    returns
     element-requires
     element-requires-2
     element-requires-3
     product-with-requires
+    number-requires
     same-elements-requires
-    returns-2)
+    returns)

@@ -1,6 +1,6 @@
 use mathlib.Core.List.{List}
 use native.Mathlib.Omega.{arith}
-use Rattle.vectors.proofs.Answers.{tells-no, tells-yes}
+use Rattle.vectors.proofs.Answers.{same-no, same-yes}
 use borrow.Author.Count.{below-more}
 use lib.Seq.{ext-getD}
 use mathlib.Core.Path.{_≡_, ap}
@@ -34,7 +34,7 @@ array-read-if1-2 c = search needs
 returns : tie.Need-returns Inv-loop μ-loop
 returns c =
     let k = c .before .before .loop .k in
-    tells-no (λ e. c .if1 .taken (ap (λ (l : List ℕ). getD l k 0) e))
+    same-no (λ e. c .if1 .taken (ap (λ (l : List ℕ). getD l k 0) e))
 
 add-k : tie.Need-add-k Inv-loop μ-loop
 add-k c = search needs
@@ -50,7 +50,7 @@ returns-2 c =
     let args = c .before .before .args in
     let sizeA : length (args .t1) ≡ 1024 = search needs in
     let sizeB : length (args .t2) ≡ 1024 = search needs in
-    tells-yes (ext-getD 0 (args .t1) (args .t2) (omega arith) (λ i h. c .before .loop .inv .1 i (omega arith)))
+    same-yes (ext-getD 0 (args .t1) (args .t2) (omega arith) (λ i h. c .before .loop .inv .1 i (omega arith)))
 
 pub same-elements-spec : {M : Type 1} → statement M
 same-elements-spec =

@@ -1,9 +1,8 @@
-use mathlib.Core.Path.{sym, _∙_}
-use native.Mathlib.Omega.{arith}
-use borrow.Author.Tests.{eqb-true, eq-eqb, ltb-true, lt-ltb}
+use mathlib.Core.Path.{ap}
+use Prim.Native.Nat.{ℕ}
+use lib.Dec.{eqb, ltb}
+use borrow.Author.Tests.{ne-eqb}
 use Rattle.ring.specs.Ring.{n}
-use Rattle.vectors.proofs.Answers.{tells-no, tells-both}
-use Rattle.sampling_vectors.proofs.Choices.{neither, tells-first, tells-second}
 use borrow.Author.Needs.{needs}
 use Rattle.sampling_vectors.proofs.agrees.Statement.{statement}
 use Rattle.sampling_vectors.proofs.agrees.Tie as tie
@@ -18,28 +17,18 @@ count-requires-2 : tie.Need-count-requires-2
 count-requires-2 c κs = search needs
 
 returns : tie.Need-returns
-returns c =
-    let e = c .before .match .keys1 in
-    tells-first (tells-both _ e (c .keys-agree .ensures)) (neither (λ p. absurd (omega (arith, p .0))) (λ p. absurd (omega (arith, p .0))))
+returns c = rw (c .before .match .keys1) (c .keys-agree .ensures)
 
 returns-2 : tie.Need-returns-2
-returns-2 c =
-    let e = c .before .match .keys2 in
-    let count = c .count .ensures in
-    let full = tells-both _ e ((λ t. sym count ∙ eqb-true _ n t), (λ f. eq-eqb _ n (count ∙ f))) in
-    tells-second (λ p. absurd (omega (arith, p .0))) (tells-first full (λ p. absurd (omega (arith, p .0))))
+returns-2 c = rw (c .before .match .keys2) (ap (λ (k : ℕ). eqb k n) (c .count .ensures))
 
 returns-3 : tie.Need-returns-3
-returns-3 c =
-    let e = c .before .match .keys3 in
-    let count = c .count2 .ensures in
-    tells-second (λ p. absurd (omega (arith, p .0)))
-    (tells-second (λ p. absurd (omega (arith, p .0))) (tells-both _ e ((λ t. rw (← count) (ltb-true _ n t)), (λ f. lt-ltb (c .count2 .result) n (rw count f)))))
+returns-3 c = rw (c .before .match .keys3) (ap (λ (k : ℕ). ltb k n) (c .count2 .ensures))
 
 returns-4 : tie.Need-returns-4
 returns-4 c =
     let (((_, not-0), not-6), not-8) = c .match .rest in
-    tells-no (neither (λ p. not-0 (p .0)) (neither (λ p. not-6 (p .0)) (λ p. not-8 (p .0))))
+    rw (ne-eqb _ 0 not-0, ne-eqb _ 6 not-6, ne-eqb _ 8 not-8)
 
 pub agrees-spec : {M : Type 1} → statement M
 agrees-spec =

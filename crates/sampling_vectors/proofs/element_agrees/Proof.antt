@@ -1,8 +1,9 @@
-use mathlib.Core.Path.{sym, ap, _∙_}
+use mathlib.Core.Path.{refl, ap, ap₂, _∙_}
 use Rattle.lists.proofs.Zeros.{size-zeros}
 use Rattle.encoding.specs.Words.{elementBytes}
 use Rattle.encoding.proofs.Words.{length-elementBytes}
 use Rattle.encoding.proofs.Buffers.{put-exact}
+use Rattle.vectors.specs.Answers.{same?}
 use borrow.Author.Needs.{needs}
 use Rattle.sampling_vectors.proofs.element_agrees.Statement.{statement}
 use Rattle.sampling_vectors.proofs.element_agrees.Tie as tie
@@ -33,11 +34,10 @@ same-requires c κs = search needs
 
 returns : tie.Need-returns
 returns c =
-    let written = c .before .before .before .before .encode-element .ensures in
-    let drawn = c .before .before .before .before .before .before .before .uniform .ensures .1 in
-    let bytes = written ∙ put-exact _ _ (length-elementBytes _ ∙ size-zeros 2048) ∙ ap elementBytes drawn in
-    let (agrees, differs) = c .same .ensures in
-    ((λ e. sym bytes ∙ agrees e), (λ e. differs (bytes ∙ e)))
+    let written = c .before .before .before .before in
+    let drawn = written .before .before .before .uniform .ensures .1 in
+    let bytes = written .encode-element .ensures ∙ put-exact _ _ (length-elementBytes _ ∙ size-zeros 2048) ∙ ap elementBytes drawn in
+    c .same .ensures ∙ ap₂ same? bytes refl
 
 pub element-agrees-spec : {M : Type 1} → statement M
 element-agrees-spec =

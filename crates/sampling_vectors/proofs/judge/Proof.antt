@@ -1,4 +1,5 @@
-use Rattle.vectors.proofs.Answers.{judged}
+use mathlib.Core.Path.{_∙_}
+use Rattle.sampling_vectors.specs.Cases.{verdict}
 use borrow.Author.Needs.{needs}
 use Rattle.sampling_vectors.proofs.judge.Statement.{statement}
 use Rattle.sampling_vectors.proofs.judge.Tie as tie
@@ -28,14 +29,22 @@ judged-requires : tie.Need-judged-requires
 judged-requires c κs = search needs
 
 returns : tie.Need-returns
+unfolding verdict
 returns c =
     let fits = c .before .before .before in
-    let noise = fits .before .before .before in
-    let stream = noise .before .field .ensures in
-    rw (c .judged .ensures)
-    (judged _ _
-    (rw (stream, noise .field2 .ensures) at (fits .fitting .ensures))
-    (rw (c .before .before .number .ensures, stream, noise .field2 .ensures, fits .before .before .field3 .ensures, fits .before .field4 .ensures) at (c .before .agrees .ensures)))
+    let secret = fits .before in
+    let public = secret .before in
+    let noise = public .before in
+    c .judged .ensures
+    ∙ rw (
+      fits .fitting .ensures,
+      c .before .agrees .ensures,
+      c .before .before .number .ensures,
+      noise .before .field .ensures,
+      noise .field2 .ensures,
+      public .field3 .ensures,
+      secret .field4 .ensures,
+    )
 
 pub judge-spec : {M : Type 1} → statement M
 judge-spec =

@@ -1,19 +1,21 @@
-use mathlib.Core.Logic.{⊎-elim}
-use Prim.Native.Nat.{_+_, _-_, _≤_}
-use native.Mathlib.Omega.{arith}
+use Prim.Native.Nat.{ℕ, _-_}
 use lib.ListN.{length}
+use Rattle.vectors.specs.declared.Verdict.{Verdict}
+use Rattle.vectors.proofs.Counts.{Counted, counted-none, counted-more, counted-all}
+use Rattle.sampling_vectors.specs.declared.Counts.{Counts}
+use Rattle.sampling_vectors.specs.Cases.{verdict, added, noCounts}
 use borrow.Author.Needs.{needs}
 use Rattle.sampling_vectors.proofs.judge_cases.Statement.{statement}
 use Rattle.sampling_vectors.proofs.judge_cases.Tie as tie
 
 abbrev Inv-loop : tie.InvT-loop
-Inv-loop text at₀ agreed₀ differed₀ passed-over₀ at agreed differed passed-over = (agreed + differed + passed-over ≤ at) × (at ≤ length text)
+Inv-loop text counts₀ at₀ counts at = Counted (λ (c : Counts) (v : Verdict) (k : ℕ). added c v) verdict 9 text noCounts counts at
 
 abbrev μ-loop : tie.MeasureT-loop
-μ-loop text at₀ agreed₀ differed₀ passed-over₀ at agreed differed passed-over = length text - at
+μ-loop text counts₀ at₀ counts at = length text - at
 
 loop-holds : tie.Need-loop-holds Inv-loop μ-loop
-loop-holds c = search needs
+loop-holds c = counted-none _ _ _ _ _ (search needs)
 
 sub-judge : tie.Need-sub-judge Inv-loop μ-loop
 sub-judge c = search needs
@@ -27,23 +29,8 @@ part-judge-end c = search needs
 judge-requires : tie.Need-judge-requires Inv-loop μ-loop
 judge-requires c κs = search needs
 
-enum-told : tie.Need-enum-told Inv-loop μ-loop
-enum-told c = search needs
-
-add-agreed : tie.Need-add-agreed Inv-loop μ-loop
-add-agreed c = search needs
-
-enum-told-2 : tie.Need-enum-told-2 Inv-loop μ-loop
-enum-told-2 c = search needs
-
-add-differed : tie.Need-add-differed Inv-loop μ-loop
-add-differed c = search needs
-
-enum-told-3 : tie.Need-enum-told-3 Inv-loop μ-loop
-enum-told-3 c = search needs
-
-add-passed-over : tie.Need-add-passed-over Inv-loop μ-loop
-add-passed-over c = search needs
+added-requires : tie.Need-added-requires Inv-loop μ-loop
+added-requires c κs = search needs
 
 after-case-requires : tie.Need-after-case-requires Inv-loop μ-loop
 after-case-requires c κs = search needs
@@ -53,11 +40,12 @@ loop-less c = search needs
 
 loop-again : tie.Need-loop-again Inv-loop μ-loop
 loop-again c =
-    let next = c .after-case .ensures in
-    (⊎-elim (λ w. omega (arith, next)) (⊎-elim (λ w. omega (arith, next)) (λ w. omega (arith, next))) (c .before .match .came), next .2)
+    let judged = c .before .before in
+    let turn = judged .before .before in
+    counted-more (turn .before .loop .inv) (turn .loop-test .taken) (judged .judge .ensures) (c .before .added .ensures) (c .after-case .ensures)
 
 returns : tie.Need-returns Inv-loop μ-loop
-returns c = search needs
+returns c = counted-all (c .before .loop .inv) (c .loop-test .left)
 
 pub judge-cases-spec : {M : Type 1} → statement M
 judge-cases-spec =
@@ -70,12 +58,7 @@ judge-cases-spec =
     part-judge-start
     part-judge-end
     judge-requires
-    enum-told
-    add-agreed
-    enum-told-2
-    add-differed
-    enum-told-3
-    add-passed-over
+    added-requires
     after-case-requires
     loop-less
     loop-again

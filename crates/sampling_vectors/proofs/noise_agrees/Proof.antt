@@ -1,8 +1,9 @@
-use mathlib.Core.Path.{sym, ap, _∙_}
+use mathlib.Core.Path.{refl, ap, ap₂, _∙_}
 use Rattle.lists.proofs.Zeros.{size-zeros}
 use Rattle.encoding.specs.Codes.{ternaryBytes}
 use Rattle.encoding.proofs.Codes.{length-ternaryBytes}
 use Rattle.encoding.proofs.Buffers.{put-exact}
+use Rattle.vectors.specs.Answers.{same?}
 use borrow.Author.Needs.{needs}
 use Rattle.sampling_vectors.proofs.noise_agrees.Statement.{statement}
 use Rattle.sampling_vectors.proofs.noise_agrees.Tie as tie
@@ -33,11 +34,10 @@ same-requires c κs = search needs
 
 returns : tie.Need-returns
 returns c =
-    let written = c .before .before .before .before .encode-ternary .ensures in
-    let drawn = c .before .before .before .before .before .before .ternary .ensures in
-    let bytes = written ∙ put-exact _ _ (length-ternaryBytes _ ∙ size-zeros 256) ∙ ap ternaryBytes drawn in
-    let (agrees, differs) = c .same .ensures in
-    ((λ e. sym bytes ∙ agrees e), (λ e. differs (bytes ∙ e)))
+    let written = c .before .before .before .before in
+    let drawn = written .before .before .ternary .ensures in
+    let bytes = written .encode-ternary .ensures ∙ put-exact _ _ (length-ternaryBytes _ ∙ size-zeros 256) ∙ ap ternaryBytes drawn in
+    c .same .ensures ∙ ap₂ same? bytes refl
 
 pub noise-agrees-spec : {M : Type 1} → statement M
 noise-agrees-spec =

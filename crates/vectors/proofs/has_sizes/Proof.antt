@@ -1,24 +1,22 @@
-use mathlib.Core.Path.{_≡_, sym, ap, _∙_}
-use mathlib.Core.Bool.{true, false≢true}
-use Prim.Native.Nat.{ℕ, _-_, _≤_, _<_}
+use mathlib.Core.Path.{_≡_, refl, sym, ap, _∙_}
+use Prim.Native.Nat.{_-_, _≤_}
 use native.Mathlib.Omega.{arith}
-use lib.ListN.{length, getD}
-use borrow.Author.Count.{below-more}
+use lib.ListN.{length, drop}
 use borrow.Author.Tests.{not-true, not-false}
-use Rattle.vectors.specs.Fields.{field, hasField}
-use Rattle.vectors.proofs.Answers.{tells-no, tells-yes}
+use Rattle.vectors.specs.Fields.{sizedFrom, sized?}
+use Rattle.vectors.proofs.Texts.{sized-more, sized-cut, sized-other, sized-all}
 use borrow.Author.Needs.{needs}
 use Rattle.vectors.proofs.has_sizes.Statement.{statement}
 use Rattle.vectors.proofs.has_sizes.Tie as tie
 
 abbrev Inv-loop : tie.InvT-loop
-Inv-loop text sizes k₀ k-end k = (k ≤ length sizes) × ((i : ℕ) → i < k → (hasField i text ≡ true) × (length (field i text) ≡ getD sizes i 0))
+Inv-loop text sizes k₀ k-end k = (k ≤ length sizes) × (sizedFrom k (drop k sizes) text ≡ sized? sizes text)
 
 abbrev μ-loop : tie.MeasureT-loop
 μ-loop text sizes k₀ k-end k = length sizes - k
 
 loop-holds : tie.Need-loop-holds Inv-loop μ-loop
-loop-holds c = (omega arith, λ i h. absurd (omega arith))
+loop-holds c = (omega arith, refl)
 
 has-field-requires : tie.Need-has-field-requires Inv-loop μ-loop
 has-field-requires c κs = search needs
@@ -26,7 +24,7 @@ has-field-requires c κs = search needs
 returns : tie.Need-returns Inv-loop μ-loop
 returns c =
     let at-loop = c .before .before .before in
-    tells-no (λ all. false≢true (sym (not-true _ (c .if1 .taken)) ∙ c .before .has-field .ensures ∙ all (at-loop .loop .k) (omega arith) .0))
+    sized-cut _ _ _ (omega arith) (sym (c .before .has-field .ensures) ∙ not-true _ (c .if1 .taken)) ∙ at-loop .loop .inv .1
 
 field-requires : tie.Need-field-requires Inv-loop μ-loop
 field-requires c κs = search needs
@@ -40,8 +38,9 @@ shared-slice-read-if2 c = search needs
 returns-2 : tie.Need-returns-2 Inv-loop μ-loop
 returns-2 c =
     let got = c .before .before in
-    let k = got .before .before .before .before .loop .k in
-    tells-no (λ all. c .if2 .taken (ap length (got .field .ensures) ∙ all k (omega arith) .1))
+    let test = got .before .before in
+    let whole = sym (test .has-field .ensures) ∙ not-false _ (got .before .if1 .left) in
+    sized-other _ _ _ (omega arith) whole (λ e. c .if2 .taken (ap length (got .field .ensures) ∙ e)) ∙ test .before .before .loop .inv .1
 
 add-k : tie.Need-add-k Inv-loop μ-loop
 add-k c = search needs
@@ -55,10 +54,10 @@ loop-again c =
     let test = got .before .before in
     let whole = sym (test .has-field .ensures) ∙ not-false _ (got .before .if1 .left) in
     let size = sym (ap length (got .field .ensures)) ∙ c .if2 .left in
-    (omega arith, below-more _ _ (test .before .before .loop .inv .1) (whole, size))
+    (omega arith, sym (sized-more _ _ _ (omega arith) whole size) ∙ test .before .before .loop .inv .1)
 
 returns-3 : tie.Need-returns-3 Inv-loop μ-loop
-returns-3 c = tells-yes (λ i h. c .before .loop .inv .1 i (omega arith))
+returns-3 c = sized-all _ _ _ (c .loop-test .left) ∙ c .before .loop .inv .1
 
 pub has-sizes-spec : {M : Type 1} → statement M
 has-sizes-spec =

@@ -6,7 +6,7 @@ use lib.ListN.{length, getD, replicate, length-replicate, getD-replicate}
 use lib.Seq.{ext-getD}
 use denote.Ref.{now}
 use borrow.Author.Count.{below-more}
-use Rattle.vectors.proofs.Answers.{tells-no, tells-yes}
+use Rattle.vectors.proofs.Answers.{same-no, same-yes}
 use borrow.Author.Needs.{needs}
 use Rattle.vectors.proofs.is_filled.Statement.{statement}
 use Rattle.vectors.proofs.is_filled.Tie as tie
@@ -29,7 +29,7 @@ returns c =
     let args = at-loop .before .args in
     let k = at-loop .loop .k in
     let n = length (now (args .buffer)) in
-    tells-no (λ e. c .if1 .taken (ap (λ (l : List ℕ). getD l k 0) e ∙ getD-replicate n k (args .value) 0 (c .before .before .loop-test .taken)))
+    same-no (λ e. c .if1 .taken (ap (λ (l : List ℕ). getD l k 0) e ∙ getD-replicate n k (args .value) 0 (c .before .before .loop-test .taken)))
 
 add-k : tie.Need-add-k Inv-loop μ-loop
 add-k c = search needs
@@ -45,7 +45,7 @@ returns-2 c =
     let args = c .before .before .args in
     let buffer = now (args .buffer) in
     let n = length buffer in
-    tells-yes
+    same-yes
     (ext-getD 0 buffer (replicate n (args .value)) (sym (length-replicate n (args .value)))
     (λ i h. c .before .loop .inv .1 i (omega arith) ∙ sym (getD-replicate n i (args .value) 0 h)))
 

@@ -6,7 +6,7 @@ use lib.ListN.{length, getD}
 use lib.Seq.{ext-getD}
 use denote.Ref.{now}
 use borrow.Author.Count.{below-more}
-use Rattle.vectors.proofs.Answers.{tells-no, tells-yes}
+use Rattle.vectors.proofs.Answers.{same-no, same-yes}
 use borrow.Author.Needs.{needs}
 use Rattle.vectors.proofs.same.Statement.{statement}
 use Rattle.vectors.proofs.same.Tie as tie
@@ -18,7 +18,7 @@ abbrev μ-loop : tie.MeasureT-loop
 μ-loop a b k₀ k-end k = length a - k
 
 returns : tie.Need-returns Inv-loop μ-loop
-returns c = tells-no (λ e. c .if1 .taken (ap (λ (l : List ℕ). length l) e))
+returns c = same-no (λ e. c .if1 .taken (ap (λ (l : List ℕ). length l) e))
 
 loop-holds : tie.Need-loop-holds Inv-loop μ-loop
 loop-holds c = (omega arith, λ j h. absurd (omega arith))
@@ -32,7 +32,7 @@ shared-slice-read-if2-2 c = search needs
 returns-2 : tie.Need-returns-2 Inv-loop μ-loop
 returns-2 c =
     let k = c .before .before .before .before .loop .k in
-    tells-no (λ e. c .if2 .taken (ap (λ (l : List ℕ). getD l k 0) e))
+    same-no (λ e. c .if2 .taken (ap (λ (l : List ℕ). getD l k 0) e))
 
 add-k : tie.Need-add-k Inv-loop μ-loop
 add-k c = search needs
@@ -46,7 +46,7 @@ loop-again c = (omega arith, below-more _ _ (c .before .before .before .before .
 returns-3 : tie.Need-returns-3 Inv-loop μ-loop
 returns-3 c =
     let args = c .before .before .before .args in
-    tells-yes (ext-getD 0 (now (args .a)) (now (args .b)) (omega arith) (λ i h. c .before .loop .inv .1 i (omega arith)))
+    same-yes (ext-getD 0 (now (args .a)) (now (args .b)) (omega arith) (λ i h. c .before .loop .inv .1 i (omega arith)))
 
 pub same-spec : {M : Type 1} → statement M
 same-spec =

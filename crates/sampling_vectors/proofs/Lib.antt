@@ -1,2 +1,0 @@
--- Laws of answers and of cases.
-pub mod Choices
