@@ -1,5 +1,2 @@
 -- Laws of the definitions of specs/.
-pub mod Lines
-pub mod Numbers
-pub mod Chains
-pub mod Fields
+pub mod Cases

@@ -1,0 +1,2 @@
+-- What the contracts of `monte_chain` cite.
+pub mod Monte

@@ -1,0 +1,2 @@
+-- What the contracts of `nist_cases` cite.
+pub mod Cases

@@ -1,0 +1,5 @@
+-- Laws of the definitions of specs/.
+pub mod Lines
+pub mod Numbers
+pub mod Headers
+pub mod Hex
