@@ -12,6 +12,10 @@
  * - The library keeps no state: calls may run at the same time on several threads.
  * - It draws no random bytes: streams and noise come from the caller. They must be uniform and new for every call, and noise is secret.
  * - The caller overwrites secrets that are no longer needed.
+ * - It needs memcpy and memset of its surroundings and nothing else: no heap, no system call.
+ *
+ * What is proved of the calls, what that rests on, and what no proof says (time, caches, secrets left on the stack, and that this header
+ * declares what the archive has) is in docs/TRUST.md.
  */
 #ifndef POLKA_H
 #define POLKA_H
@@ -19,11 +23,27 @@
 #include <stddef.h>
 #include <stdint.h>
 
+/* The version of these declarations. The minor number rises with each change that callers can see, and until there is a major one such a
+ * change may be a break. */
+#define POLKA_VERSION_MAJOR 0
+#define POLKA_VERSION_MINOR 1
+#define POLKA_VERSION_PATCH 0
+#define POLKA_VERSION "0.1.0"
+
+/* The compiler warns where an answer is not looked at. */
+#if (defined(__cplusplus) && __cplusplus >= 201703L) || (defined(__STDC_VERSION__) && __STDC_VERSION__ >= 202311L)
+#define POLKA_ANSWER [[nodiscard]]
+#elif defined(__GNUC__)
+#define POLKA_ANSWER __attribute__((warn_unused_result))
+#else
+#define POLKA_ANSWER
+#endif
+
 #ifdef __cplusplus
 extern "C" {
 #endif
 
-/* Lengths in bytes. Document 01's word is in brackets where it is another. */
+/* Lengths in bytes. The word of document 01, the buyer's scope, is in brackets where it is another. */
 #define POLKA_PUBLIC_KEY_LENGTH 4101     /* "PDK", version, a, b */
 #define POLKA_SECRET_KEY_LENGTH 4357     /* "SDK", version, a, b, s (desk key) */
 #define POLKA_SEALED_ENTRY_LENGTH 4133   /* "PLG", version, c1, c2, body, tag */
@@ -33,6 +53,16 @@ extern "C" {
 #define POLKA_UNIFORM_STREAM_LENGTH 2688 /* random bytes for a (lent stream) */
 #define POLKA_KEY_NOISE_LENGTH 512       /* random bytes for s, or for e */
 #define POLKA_TRIPLE_NOISE_LENGTH 1536   /* random bytes for a triple: of a sealing, or the dummy of an opening */
+
+/* The stack that each call takes at most, in bytes, what memcpy and memset take aside. Measured, not proved: tests/stack.sh fails where a
+ * call takes more. No call takes more for longer input. */
+#define POLKA_KEYGEN_STACK (53 * 1024)
+#define POLKA_CHECK_SECRET_KEY_STACK (85 * 1024)
+#define POLKA_ENCAPSULATE_STACK (73 * 1024)
+#define POLKA_DECAPSULATE_STACK (131 * 1024)
+#define POLKA_SEAL_STACK (74 * 1024)
+#define POLKA_OPEN_STACK (127 * 1024)
+#define POLKA_SHAKE256_STACK (2 * 1024)
 
 /* What the calls answer, with document 01's word. */
 enum polka_answer {
@@ -51,6 +81,7 @@ enum polka_answer {
 
 /* Makes a key pair. It tries once: under 6 (about one try in sixty) and 8 try again with new bytes.
  * Answers 0; 1, 8, 6, in this order. */
+POLKA_ANSWER
 uint32_t polka_keygen(const uint8_t *stream, size_t stream_length,    /* POLKA_UNIFORM_STREAM_LENGTH */
                       const uint8_t *noise_s, size_t noise_s_length,  /* POLKA_KEY_NOISE_LENGTH */
                       const uint8_t *noise_e, size_t noise_e_length,  /* POLKA_KEY_NOISE_LENGTH */
@@ -59,16 +90,19 @@ uint32_t polka_keygen(const uint8_t *stream, size_t stream_length,    /* POLKA_U
 
 /* Whether a secret key is sound. Both openings make this check themselves.
  * Answers 0; 1, 2, 3, 4, 5, 6, 7. */
+POLKA_ANSWER
 uint32_t polka_check_secret_key(const uint8_t *secret_key, size_t secret_key_length); /* POLKA_SECRET_KEY_LENGTH */
 
 /* The encapsulation of a triple (capsule making).
  * Answers 0; 1; for the key 2, 3, 4, 6; for the triple 5. */
+POLKA_ANSWER
 uint32_t polka_encapsulate(const uint8_t *public_key, size_t public_key_length,  /* POLKA_PUBLIC_KEY_LENGTH */
                            const uint8_t *triple, size_t triple_length,          /* POLKA_TRIPLE_LENGTH */
                            uint8_t *encapsulation, size_t encapsulation_length); /* POLKA_ENCAPSULATION_LENGTH, written */
 
 /* The triple of an encapsulation (bare opening). The dummy has no part in the answer.
  * Answers 0; 1; for the key 2, 3, 4, 5, 6, 7; for the encapsulation 4; for the dummy 5; 9. */
+POLKA_ANSWER
 uint32_t polka_decapsulate(const uint8_t *secret_key, size_t secret_key_length,       /* POLKA_SECRET_KEY_LENGTH */
                            const uint8_t *encapsulation, size_t encapsulation_length, /* POLKA_ENCAPSULATION_LENGTH */
                            const uint8_t *dummy, size_t dummy_length,                 /* POLKA_TRIPLE_LENGTH */
@@ -76,6 +110,7 @@ uint32_t polka_decapsulate(const uint8_t *secret_key, size_t secret_key_length, 
 
 /* Seals an entry. The noise is the whole secret of this one sealing.
  * Answers 0; 1; for the key 2, 3, 4, 6. */
+POLKA_ANSWER
 uint32_t polka_seal(const uint8_t *public_key, size_t public_key_length, /* POLKA_PUBLIC_KEY_LENGTH */
                     const uint8_t *noise, size_t noise_length,           /* POLKA_TRIPLE_NOISE_LENGTH */
                     const uint8_t *entry, size_t entry_length,           /* POLKA_ENTRY_LENGTH */
@@ -83,6 +118,7 @@ uint32_t polka_seal(const uint8_t *public_key, size_t public_key_length, /* POLK
 
 /* Opens a sealed entry. The dummy noise has no part in the answer.
  * Answers 0; 1; for the key 2, 3, 4, 5, 6, 7; for the sealed entry 2, 3, 4; 9; 10. */
+POLKA_ANSWER
 uint32_t polka_open(const uint8_t *secret_key, size_t secret_key_length,   /* POLKA_SECRET_KEY_LENGTH */
                     const uint8_t *sealed, size_t sealed_length,           /* POLKA_SEALED_ENTRY_LENGTH */
                     const uint8_t *dummy_noise, size_t dummy_noise_length, /* POLKA_TRIPLE_NOISE_LENGTH */

@@ -1,5 +1,6 @@
 #!/usr/bin/env bash
-# Compiles the C example against include/polka.h and the archive, runs it, and fails where it prints anything unexpected.
+# Compiles the C examples against include/polka.h and the archive, runs them, and fails where they print anything unexpected. Also holds
+# the header to what it says: it is C and C++ of several years, and a compiler warns where an answer is not looked at.
 # usage: tests/c_example.sh     from anywhere; needs gcc or clang (CC names another compiler)
 set -euo pipefail
 
@@ -7,19 +8,34 @@ top=$(cd "$(dirname "$0")/.." && pwd)
 . "$top/tests/archive.sh"
 room=$(mktemp -d)
 trap 'rm -rf "$room"' EXIT
+strict=(-Wall -Wextra -Wpedantic -Werror -I "$top/include")
 
-${CC:-cc} -std=c11 -D_DEFAULT_SOURCE -O2 -Wall -Wextra -Wpedantic -Werror -I "$top/include" \
-    "$top/examples/c/seal_and_open.c" "$archive" -o "$room/seal_and_open"
-"$room/seal_and_open" | tee "$room/output"
+for example in seal_and_open open_log; do
+    ${CC:-cc} -std=c11 -D_DEFAULT_SOURCE -O2 "${strict[@]}" "$top/examples/c/$example.c" "$archive" -o "$room/$example"
+done
 
-# The header alone, as C++ reads it.
+# warns COMPILER..: it takes the header, and warns where an answer is not looked at and only there
+warns() {
+    local head='#include "polka.h"\nuint32_t f(const uint8_t *k);uint32_t f(const uint8_t *k) {'
+    local tail='polka_check_secret_key(k, POLKA_SECRET_KEY_LENGTH);'
+    printf '%b return %s }\n' "$head" "$tail" | "$@" "${strict[@]}" -c -o /dev/null -
+    if printf '%b %s return 0; }\n' "$head" "$tail" | "$@" "${strict[@]}" -c -o /dev/null - 2>"$room/warning"; then
+        echo "WRONG: $*: an answer that is not looked at gives no warning"
+        exit 1
+    fi
+    grep -q unused-result "$room/warning"
+    echo "ok: the header by $*"
+}
+for year in c99 c11 c2x; do
+    warns "${CC:-cc}" -xc -std=$year
+done
 if command -v c++ >/dev/null; then
-    printf '#include "polka.h"\nint main() { return POLKA_DONE; }\n' >"$room/header.cpp"
-    c++ -Wall -Wextra -Werror -I "$top/include" "$room/header.cpp" -o "$room/header"
-    "$room/header"
-    echo "ok: the header in C++"
+    for year in c++11 c++17; do
+        warns c++ -xc++ -std=$year
+    done
 fi
 
+"$room/seal_and_open" | tee "$room/output"
 # A refused try of key generation may stand before the one that is done.
 expected='key check: 0
 seal "lane 4, 00:47.52": 0
@@ -31,3 +47,6 @@ else
     echo "WRONG: the example printed something else"
     exit 1
 fi
+
+. "$top/tests/log.sh"
+opens_log "$room/open_log"

@@ -3,7 +3,7 @@
 #   1. On all vectors: no read or write outside a buffer, no use of an undefined byte, no leak. Fails on any.
 #   2. With secrets marked undefined: lists by function each branch and each address that hangs on a secret, and fails where
 #      tests/memcheck/allowed.txt does not list it with its reason. Memcheck sees the path of one run: this is a test, not a proof.
-# usage: tests/memcheck.sh [CALL..]     calls for part 2: seal open keygen encapsulate decapsulate; without any: seal open
+# usage: tests/memcheck.sh [CALL..]     calls for part 2; without any: all seven
 #        needs Debian's valgrind and gcc; POLKA_VECTORS names the folder of the vectors
 set -euo pipefail
 
@@ -20,13 +20,13 @@ room=$(mktemp -d)
 trap 'rm -rf "$room"' EXIT
 wrong=0
 
-for driver in vectors secrets; do
-    ${CC:-cc} -std=c11 -g -O1 -Wall -Wextra -Werror -I "$top/include" "$top/tests/memcheck/$driver.c" "$archive" -o "$room/$driver"
+for driver in memory secrets; do
+    ${CC:-cc} -std=c11 -g -O1 -Wall -Wextra -Werror -I "$top/include" "$top/tests/drivers/$driver.c" "$archive" -o "$room/$driver"
 done
 
 echo "memcheck on vectors"
 if valgrind --quiet --error-exitcode=9 --leak-check=full --show-leak-kinds=all --errors-for-leak-kinds=all \
-    "$room/vectors" "$vectors"; then
+    "$room/memory" "$vectors"; then
     echo "ok: no invalid read or write, no leak"
 else
     echo "WRONG: a mismatch or a report of memcheck above"
@@ -58,7 +58,7 @@ by_function() {
 }
 
 calls=("$@")
-[ "${#calls[@]}" -gt 0 ] || calls=(seal open)
+[ "${#calls[@]}" -gt 0 ] || calls=(keygen check_secret_key encapsulate decapsulate seal open shake256)
 for call in "${calls[@]}"; do
     echo "memcheck with the secrets of polka_$call marked undefined"
     if ! valgrind -s --track-origins=yes --error-limit=no --num-callers=6 "$room/secrets" "$call" >"$room/stdout" 2>"$room/report"; then
@@ -69,10 +69,12 @@ for call in "${calls[@]}"; do
     fi
     by_function "$room/report" >"$room/list"
     while read -r kind function secret places times addresses; do
-        if grep -qx "$call $kind $function $secret" "$top/tests/memcheck/allowed.txt"; then
+        # the list has the most places that were looked at
+        most=$(sed -n "s/^$call $kind $function $secret \([0-9]*\)$/\1/p" "$top/tests/memcheck/allowed.txt")
+        if [ "$places" -le "${most:-0}" ]; then
             verdict="listed"
         else
-            verdict="WRONG, not listed"
+            verdict="WRONG, not listed with so many places"
             wrong=1
         fi
         echo "$verdict: $call $kind $function $secret"

@@ -1,10 +1,11 @@
 #!/usr/bin/env bash
-# Makes a key, seals an entry and opens it at the desk, all from random bytes, and shows each step. It builds what is missing.
+# Makes a key, seals an entry and opens it at the desk, all from random bytes, and shows each step. It proves and builds what is missing.
 # usage: tests/round_trip.sh [ENTRY]     ENTRY is a text of 16 ASCII characters
 set -euo pipefail
 export LC_ALL=C
 
 top=$(cd "$(dirname "$0")/.." && pwd)
+. "$top/tests/prove.sh"
 bin=$top/target/bin
 entry=${1:-"Lane 4  00:52.31"}
 room=$(mktemp -d)
@@ -15,13 +16,8 @@ if [ "${#entry}" != 16 ]; then
     exit 2
 fi
 
-for program in make_key seal_entry desk; do
-    if [ ! -x "$bin/$program" ]; then
-        echo "Proving and building make_key, seal_entry and desk, which takes some minutes:"
-        (cd "$top" && rt check make_key seal_entry desk) | tail -n 1
-        break
-    fi
-done
+echo "Proving and building make_key, seal_entry and desk, which takes some minutes the first time:"
+prove check make_key seal_entry desk
 
 random() {
     head -c "$1" /dev/urandom

@@ -7,11 +7,10 @@ use polka::{Entry, KeyNoise, PublicKey, SealedEntry, SecretKey, TripleNoise, Uni
 
 fn make_key(random: &mut File) -> Result<(PublicKey, SecretKey), Box<dyn Error>> {
     loop {
-        let mut stream = [0; UniformStream::LENGTH];
-        random.read_exact(&mut stream)?;
+        let stream = UniformStream::filled_by(|bytes| random.read_exact(bytes))?;
         let noise_s = KeyNoise::filled_by(|bytes| random.read_exact(bytes))?;
         let noise_e = KeyNoise::filled_by(|bytes| random.read_exact(bytes))?;
-        match polka::keygen(&stream.into(), noise_s, noise_e) {
+        match polka::keygen(&stream, noise_s, noise_e) {
             // about one b in sixty is no unit, and a stream may run dry: both call for new bytes
             Err(polka::Error::NotInvertible | polka::Error::StreamExhausted) => continue,
             answer => return Ok(answer?),

@@ -1,7 +1,8 @@
 //! The refusals of document 01.
-use std::fmt;
+use core::fmt;
 
-/// Why a call refused. Nothing is returned beside it.
+/// Why a call refused. Nothing is returned beside it. Document 01, the buyer's scope, gives each refusal a number and a word, and each
+/// call the order in which it looks for them.
 #[derive(Clone, Copy, PartialEq, Eq, Hash, Debug)]
 #[non_exhaustive]
 pub enum Error {
@@ -28,7 +29,8 @@ pub enum Error {
 }
 
 impl Error {
-    pub const ALL: [Error; 10] = [
+    /// Every refusal, by number. There may be more of them in a later version.
+    pub const ALL: &'static [Error] = &[
         Error::WrongLength,
         Error::WrongMark,
         Error::WrongVersion,
@@ -41,14 +43,14 @@ impl Error {
         Error::TagMismatch,
     ];
 
-    /// Document 01's number, 1 to 10.
+    /// Document 01's number, from 1.
     pub fn number(self) -> u32 {
         self as u32
     }
 
     /// The refusal with this number; 0 is none.
     pub fn from_number(number: u32) -> Option<Error> {
-        Error::ALL.into_iter().find(|error| error.number() == number)
+        Error::ALL.iter().copied().find(|error| error.number() == number)
     }
 
     /// Document 01's word.
@@ -67,19 +69,19 @@ impl Error {
         }
     }
 
-    /// The name in this library.
-    pub fn name(self) -> &'static str {
+    /// What is wrong, for people.
+    pub fn meaning(self) -> &'static str {
         match self {
-            Error::WrongLength => "WrongLength",
-            Error::WrongMark => "WrongMark",
-            Error::WrongVersion => "WrongVersion",
-            Error::CoefficientOutOfRange => "CoefficientOutOfRange",
-            Error::InvalidCode => "InvalidCode",
-            Error::NotInvertible => "NotInvertible",
-            Error::KeyMismatch => "KeyMismatch",
-            Error::StreamExhausted => "StreamExhausted",
-            Error::DecapsulationFailure => "DecapsulationFailure",
-            Error::TagMismatch => "TagMismatch",
+            Error::WrongLength => "a buffer has not its exact length",
+            Error::WrongMark => "the record has another mark",
+            Error::WrongVersion => "the record has another version",
+            Error::CoefficientOutOfRange => "a coefficient is 59,393 or more",
+            Error::InvalidCode => "a two-bit code is 3",
+            Error::NotInvertible => "b of the key has no inverse",
+            Error::KeyMismatch => "the parts of the secret key do not fit each other",
+            Error::StreamExhausted => "the stream has too few words below 59,393",
+            Error::DecapsulationFailure => "no triple has this encapsulation under this key",
+            Error::TagMismatch => "the tag is not that of the body",
         }
     }
 
@@ -92,10 +94,11 @@ impl Error {
     }
 }
 
+/// What is wrong, then number and word: `the tag is not that of the body (10, bad tag)`.
 impl fmt::Display for Error {
     fn fmt(&self, f: &mut fmt::Formatter<'_>) -> fmt::Result {
-        write!(f, "{} ({}, number {})", self.word(), self.name(), self.number())
+        write!(f, "{} ({}, {})", self.meaning(), self.number(), self.word())
     }
 }
 
-impl std::error::Error for Error {}
+impl core::error::Error for Error {}

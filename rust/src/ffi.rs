@@ -1,5 +1,6 @@
 //! The exports of the archive, over slices of any length. They answer document 01's number; under any number but 0 no output byte has
-//! changed. All other modules go through these: nothing else here is unsafe.
+//! changed. All other modules go through these: nothing else here is unsafe. Tests and benchmark, which lend any length, compile this
+//! file once more as their own.
 
 // Nothing checks these against the Rattle source: a slice is a pointer and a length.
 mod archive {
@@ -145,21 +146,12 @@ pub fn shake256(input: &[u8], out: &mut [u8]) {
     unsafe { archive::polka_shake256(input.as_ptr(), input.len(), out.as_mut_ptr(), out.len()) }
 }
 
-/// Overwrites bytes with zeros by volatile writes, which the compiler may not leave out although nobody reads them again.
-pub(crate) fn wipe(bytes: &mut [u8]) {
+/// Overwrites bytes with zeros by volatile writes, which the compiler may not leave out although nobody reads them again, and moves none
+/// of them past the fence.
+pub fn wipe(bytes: &mut [u8]) {
     for byte in bytes {
         // SAFETY: the pointer is that of a byte borrowed for writing.
-        unsafe { std::ptr::write_volatile(byte, 0) }
+        unsafe { core::ptr::write_volatile(byte, 0) }
     }
-}
-
-#[cfg(test)]
-mod tests {
-    #[test]
-    fn wiping_leaves_zeros() {
-        let mut bytes = [0xab; 100];
-        super::wipe(&mut bytes[10..90]);
-        assert!(bytes[10..90].iter().all(|&byte| byte == 0));
-        assert!(bytes[..10].iter().chain(&bytes[90..]).all(|&byte| byte == 0xab));
-    }
+    core::sync::atomic::compiler_fence(core::sync::atomic::Ordering::SeqCst);
 }

@@ -2,16 +2,58 @@
 //!
 //! A desk makes a key pair ([`keygen`]); a console seals 16-byte entries under the public key ([`seal`]); the desk opens them ([`open`]).
 //! [`encapsulate`] and [`decapsulate`] are the scheme without an entry. Every call judges the records that it is lent, in the order that
-//! document 01 fixes, and answers [`Error`] at the first fault.
+//! document 01, the buyer's scope, fixes, and answers [`Error`] at the first fault.
 //!
-//! The library draws no random bytes. Streams and noise come from the caller and must be uniform, secret and new each time: noise is
-//! taken by value and cannot be copied, so that none is used twice by accident.
+//! The library draws no random bytes. Streams and noise come from the caller and must be uniform and new each time. Noise is secret too:
+//! it is taken by value and cannot be copied, so that none is used twice by accident.
+//!
+//! ```
+//! use std::fs::File;
+//! use std::io::Read;
+//!
+//! use polka::{Entry, Error, KeyNoise, TripleNoise, UniformStream};
+//!
+//! let mut random = File::open("/dev/urandom")?;
+//!
+//! // The desk makes a key pair. About one try in sixty is refused, and calls for new bytes.
+//! let (public_key, secret_key) = loop {
+//!     let stream = UniformStream::filled_by(|bytes| random.read_exact(bytes))?;
+//!     let noise_s = KeyNoise::filled_by(|bytes| random.read_exact(bytes))?;
+//!     let noise_e = KeyNoise::filled_by(|bytes| random.read_exact(bytes))?;
+//!     match polka::keygen(&stream, noise_s, noise_e) {
+//!         Err(Error::NotInvertible | Error::StreamExhausted) => continue,
+//!         answer => break answer?,
+//!     }
+//! };
+//!
+//! // A console seals an entry.
+//! let noise = TripleNoise::filled_by(|bytes| random.read_exact(bytes))?;
+//! let sealed = polka::seal(&public_key, noise, &Entry::from(b"lane 4, 00:47.52"))?;
+//!
+//! // The desk opens it, and refuses it with another tag.
+//! let dummy = TripleNoise::filled_by(|bytes| random.read_exact(bytes))?;
+//! let entry = polka::open(&secret_key, &sealed, dummy)?;
+//! assert_eq!(entry.as_bytes(), b"lane 4, 00:47.52");
+//!
+//! let mut changed = *sealed.as_bytes();
+//! changed[4132] ^= 1;
+//! let dummy = TripleNoise::filled_by(|bytes| random.read_exact(bytes))?;
+//! assert_eq!(polka::open(&secret_key, &changed.into(), dummy).unwrap_err(), Error::TagMismatch);
+//! # Ok::<(), Box<dyn std::error::Error>>(())
+//! ```
+//!
+//! The package needs no standard library, only `alloc`: each record has its place on the heap. `include/polka.h` says how much stack
+//! each call takes, and `docs/TRUST.md` what is proved and what is not.
+#![no_std]
 #![deny(unsafe_code)]
+#![warn(missing_docs)]
+
+extern crate alloc;
 
 mod error;
 // The only module with unsafe code.
 #[allow(unsafe_code)]
-pub mod ffi;
+mod ffi;
 mod records;
 
 pub use error::Error;
@@ -50,7 +92,16 @@ pub fn decapsulate(secret_key: &SecretKey, encapsulation: &Encapsulation, dummy:
     Ok(triple)
 }
 
-/// Seals an entry. The noise is the whole secret of this one sealing.
+/// Seals an entry. The noise is the whole secret of this one sealing, and none is left for a second one:
+///
+/// ```compile_fail,E0382
+/// use polka::{Entry, PublicKey, TripleNoise};
+///
+/// fn twice(key: &PublicKey, noise: TripleNoise, entries: [Entry; 2]) {
+///     let first = polka::seal(key, noise, &entries[0]);
+///     let second = polka::seal(key, noise, &entries[1]);
+/// }
+/// ```
 pub fn seal(public_key: &PublicKey, noise: TripleNoise, entry: &Entry) -> Result<SealedEntry, Error> {
     let mut sealed = SealedEntry::zeros();
     Error::judge(ffi::seal(public_key.as_bytes(), noise.as_bytes(), entry.as_bytes(), sealed.as_mut_bytes()))?;
@@ -65,6 +116,12 @@ pub fn open(secret_key: &SecretKey, sealed: &SealedEntry, dummy_noise: TripleNoi
 }
 
 /// Fills `out` with the first bytes of SHAKE256 of `input`; both may have any length.
+///
+/// ```
+/// let mut out = [0; 4];
+/// polka::shake256(b"", &mut out);
+/// assert_eq!(out, [0x46, 0xb9, 0xdd, 0x2b]);
+/// ```
 pub fn shake256(input: &[u8], out: &mut [u8]) {
     ffi::shake256(input, out);
 }

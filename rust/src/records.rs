@@ -1,37 +1,40 @@
 //! Document 01's buffers as types that fix their lengths. They hold bytes of any content: each call judges what it is lent.
-use std::fmt;
+use alloc::boxed::Box;
+use core::fmt;
 
 use crate::error::Error;
 use crate::ffi;
 
-/// Bytes that anyone may see.
-macro_rules! public_bytes {
+/// What all of them have.
+macro_rules! bytes {
     ($(#[$comment:meta])* $name:ident, $length:expr) => {
         $(#[$comment])*
-        #[derive(Clone, PartialEq, Eq)]
         pub struct $name(Box<[u8; $length]>);
 
         impl $name {
+            /// How many bytes it has.
             pub const LENGTH: usize = $length;
 
-            #[allow(dead_code)]
-            pub(crate) fn zeros() -> Self {
-                $name(Box::new([0; $length]))
+            /// Filled in place by `fill`, a source of random bytes or a reader.
+            pub fn filled_by<E>(fill: impl FnOnce(&mut [u8; $length]) -> Result<(), E>) -> Result<Self, E> {
+                let mut bytes = Self::zeros();
+                fill(&mut bytes.0)?;
+                Ok(bytes)
             }
 
+            /// Its bytes.
             pub fn as_bytes(&self) -> &[u8; $length] {
                 &self.0
             }
 
+            pub(crate) fn zeros() -> Self {
+                $name(Box::new([0; $length]))
+            }
+
+            // a stream and noise are only read
             #[allow(dead_code)]
             pub(crate) fn as_mut_bytes(&mut self) -> &mut [u8; $length] {
                 &mut self.0
-            }
-        }
-
-        impl From<[u8; $length]> for $name {
-            fn from(bytes: [u8; $length]) -> Self {
-                $name(Box::new(bytes))
             }
         }
 
@@ -41,7 +44,26 @@ macro_rules! public_bytes {
 
             fn try_from(bytes: &[u8]) -> Result<Self, Error> {
                 let bytes: &[u8; $length] = bytes.try_into().map_err(|_| Error::WrongLength)?;
-                Ok($name(Box::new(*bytes)))
+                let mut result = Self::zeros();
+                result.0.copy_from_slice(bytes);
+                Ok(result)
+            }
+        }
+    };
+}
+
+/// Bytes that anyone may see.
+macro_rules! public_bytes {
+    ($(#[$comment:meta])* $name:ident, $length:expr) => {
+        bytes! {
+            $(#[$comment])*
+            #[derive(Clone, PartialEq, Eq)]
+            $name, $length
+        }
+
+        impl From<[u8; $length]> for $name {
+            fn from(bytes: [u8; $length]) -> Self {
+                $name(Box::new(bytes))
             }
         }
 
@@ -61,31 +83,11 @@ macro_rules! public_bytes {
 /// they go. There is no `Clone` and no `PartialEq`, and `Debug` tells only the length.
 macro_rules! secret_bytes {
     ($(#[$comment:meta])* $name:ident, $length:expr) => {
-        $(#[$comment])*
-        pub struct $name(Box<[u8; $length]>);
-
-        impl $name {
-            pub const LENGTH: usize = $length;
-
-            /// Filled in place by `fill`, a source of random bytes or a reader.
-            pub fn filled_by<E>(fill: impl FnOnce(&mut [u8; $length]) -> Result<(), E>) -> Result<Self, E> {
-                let mut bytes = Self::zeros();
-                fill(&mut bytes.0)?;
-                Ok(bytes)
-            }
-
-            pub(crate) fn zeros() -> Self {
-                $name(Box::new([0; $length]))
-            }
-
-            pub fn as_bytes(&self) -> &[u8; $length] {
-                &self.0
-            }
-
-            #[allow(dead_code)]
-            pub(crate) fn as_mut_bytes(&mut self) -> &mut [u8; $length] {
-                &mut self.0
-            }
+        bytes! {
+            $(#[$comment])*
+            ///
+            /// Secret: it cannot be copied or compared, `Debug` tells only its length, and its bytes are overwritten when it goes.
+            $name, $length
         }
 
         /// The caller's own copy stays the caller's to overwrite.
@@ -94,16 +96,6 @@ macro_rules! secret_bytes {
                 let mut result = Self::zeros();
                 result.0.copy_from_slice(bytes);
                 result
-            }
-        }
-
-        /// [`Error::WrongLength`] is the only refusal.
-        impl TryFrom<&[u8]> for $name {
-            type Error = Error;
-
-            fn try_from(bytes: &[u8]) -> Result<Self, Error> {
-                let bytes: &[u8; $length] = bytes.try_into().map_err(|_| Error::WrongLength)?;
-                Ok($name::from(bytes))
             }
         }
 
@@ -122,27 +114,27 @@ macro_rules! secret_bytes {
 }
 
 public_bytes! {
-    /// "PDK", version, a, b.
+    /// A public key: "PDK", version, a, b.
     PublicKey, 4101
 }
 public_bytes! {
-    /// "PLG", version, c1, c2, body, tag.
+    /// A sealed entry: "PLG", version, c1, c2, body, tag.
     SealedEntry, 4133
 }
 public_bytes! {
-    /// c1, c2. Document 01 calls it a bare capsule.
+    /// The encapsulation of a triple: c1, c2. Document 01 calls it a bare capsule.
     Encapsulation, 4096
 }
 public_bytes! {
-    /// 1,344 words from which a is taken. The public key shows them.
+    /// Random bytes for a key: 1,344 words from which a is taken. The public key shows them.
     UniformStream, 2688
 }
 secret_bytes! {
-    /// "SDK", version, a, b, s. Document 01 calls it a desk key.
+    /// A secret key: "SDK", version, a, b, s. Document 01 calls it a desk key.
     SecretKey, 4357
 }
 secret_bytes! {
-    /// r, e1, e2, two bits a coefficient.
+    /// What is encapsulated: r, e1, e2, two bits a coefficient.
     Triple, 768
 }
 secret_bytes! {
@@ -156,4 +148,15 @@ secret_bytes! {
 secret_bytes! {
     /// Random bytes for a triple: of a sealing, or the dummy of an opening.
     TripleNoise, 1536
+}
+
+#[cfg(test)]
+mod tests {
+    #[test]
+    fn wiping_leaves_zeros() {
+        let mut bytes = [0xab; 100];
+        crate::ffi::wipe(&mut bytes[10..90]);
+        assert!(bytes[10..90].iter().all(|&byte| byte == 0));
+        assert!(bytes[..10].iter().chain(&bytes[90..]).all(|&byte| byte == 0xab));
+    }
 }

@@ -2,16 +2,16 @@
 use polka::{Entry, Error, KeyNoise, PublicKey, SealedEntry, SecretKey, Triple, TripleNoise};
 
 #[test]
-fn refusals_know_their_numbers_words_and_names() {
-    for (number, error) in (1..).zip(Error::ALL) {
+fn refusals_know_their_numbers_and_words() {
+    for (number, &error) in (1..).zip(Error::ALL) {
         assert_eq!(error.number(), number);
         assert_eq!(Error::from_number(number), Some(error));
-        assert_eq!(format!("{error:?}"), error.name());
-        assert_eq!(error.to_string(), format!("{} ({}, number {number})", error.word(), error.name()));
+        assert_eq!(error.to_string(), format!("{} ({number}, {})", error.meaning(), error.word()));
     }
+    assert_eq!(Error::ALL.len(), 10);
     assert_eq!(Error::from_number(0), None);
     assert_eq!(Error::from_number(11), None);
-    assert_eq!(Error::DecapsulationFailure.to_string(), "no triple (DecapsulationFailure, number 9)");
+    assert_eq!(Error::DecapsulationFailure.to_string(), "no triple has this encapsulation under this key (9, no triple)");
     let _: &dyn std::error::Error = &Error::TagMismatch;
 }
 

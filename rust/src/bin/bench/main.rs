@@ -2,6 +2,9 @@
 //! keys, sealing and opening beside Botan's NewHope-1024. The two sides of a line take turns, and the least time of each counts.
 mod botan;
 mod fast;
+#[allow(dead_code)]
+#[path = "../../ffi.rs"]
+mod ffi;
 mod openssl;
 mod product;
 
@@ -105,10 +108,10 @@ impl Records {
         let (mut encapsulation, mut sealed) = (vec![0; 4096], vec![0; 4133]);
         let (stream, noise_s, noise_e) = (1..)
             .map(|seed| (bytes(10 * seed, 2688), bytes(10 * seed + 2, 512), bytes(10 * seed + 4, 512)))
-            .find(|(stream, noise_s, noise_e)| polka::ffi::keygen(stream, noise_s, noise_e, &mut public_key, &mut secret_key) == 0)
+            .find(|(stream, noise_s, noise_e)| ffi::keygen(stream, noise_s, noise_e, &mut public_key, &mut secret_key) == 0)
             .unwrap();
-        assert_eq!(polka::ffi::encapsulate(&public_key, &triple, &mut encapsulation), 0);
-        assert_eq!(polka::ffi::seal(&public_key, &noise, &entry, &mut sealed), 0);
+        assert_eq!(ffi::encapsulate(&public_key, &triple, &mut encapsulation), 0);
+        assert_eq!(ffi::seal(&public_key, &noise, &entry, &mut sealed), 0);
         let made = Records { stream, noise_s, noise_e, public_key, secret_key, triple, encapsulation, noise, entry, sealed, dummy_noise };
         made.agree();
         made
@@ -137,12 +140,12 @@ impl Records {
         let mut sealed = vec![0; 4133];
         assert_eq!(fast::seal(&self.public_key, &self.noise, &self.entry, &mut sealed), 0);
         assert!(sealed == self.sealed, "the sealed entries differ");
-        for open in [polka::ffi::open, fast::open] {
+        for open in [ffi::open, fast::open] {
             let mut entry = vec![0; 16];
             assert_eq!(open(&self.secret_key, &self.sealed, &self.dummy_noise, &mut entry), 0);
             assert!(entry == self.entry, "the entries differ");
         }
-        for decapsulate in [polka::ffi::decapsulate, fast::decapsulate] {
+        for decapsulate in [ffi::decapsulate, fast::decapsulate] {
             let mut triple = vec![0; 768];
             assert_eq!(decapsulate(&self.secret_key, &self.encapsulation, &self.triple, &mut triple), 0);
             assert!(triple == self.triple, "the triples differ");
@@ -180,18 +183,18 @@ fn beside_rust(records: &Records) {
     let Records { public_key, secret_key, triple, encapsulation, noise, entry, sealed, dummy_noise, .. } = records;
     let product = |call| two_in(call, records.elements(), 2048);
     line("product", in_turn(ROUNDS, CALLS, product(product::product), product(fast::product)));
-    let times = in_turn(ROUNDS, CALLS, keygen_of(polka::ffi::keygen, records), keygen_of(fast::keygen, records));
+    let times = in_turn(ROUNDS, CALLS, keygen_of(ffi::keygen, records), keygen_of(fast::keygen, records));
     line("key generation", times);
     let check = |call: fn(&[u8]) -> u32| move || assert_eq!(call(black_box(secret_key)), 0);
-    line("key check", in_turn(ROUNDS, CALLS, check(polka::ffi::check_secret_key), check(fast::check_secret_key)));
+    line("key check", in_turn(ROUNDS, CALLS, check(ffi::check_secret_key), check(fast::check_secret_key)));
     let encapsulate = |call| two_in(call, [public_key, triple], 4096);
-    line("encapsulate", in_turn(ROUNDS, CALLS, encapsulate(polka::ffi::encapsulate), encapsulate(fast::encapsulate)));
+    line("encapsulate", in_turn(ROUNDS, CALLS, encapsulate(ffi::encapsulate), encapsulate(fast::encapsulate)));
     let decapsulate = |call| three_in(call, [secret_key, encapsulation, triple], 768);
-    line("decapsulate", in_turn(ROUNDS, CALLS, decapsulate(polka::ffi::decapsulate), decapsulate(fast::decapsulate)));
+    line("decapsulate", in_turn(ROUNDS, CALLS, decapsulate(ffi::decapsulate), decapsulate(fast::decapsulate)));
     let seal = |call| three_in(call, [public_key, noise, entry], 4133);
-    line("seal", in_turn(ROUNDS, CALLS, seal(polka::ffi::seal), seal(fast::seal)));
+    line("seal", in_turn(ROUNDS, CALLS, seal(ffi::seal), seal(fast::seal)));
     let open = |call| three_in(call, [secret_key, sealed, dummy_noise], 16);
-    line("open", in_turn(ROUNDS, CALLS, open(polka::ffi::open), open(fast::open)));
+    line("open", in_turn(ROUNDS, CALLS, open(ffi::open), open(fast::open)));
 }
 
 /// Where the time goes, by the peer in Rust: the archive exports whole calls only.
@@ -237,9 +240,9 @@ fn beside_newhope(records: &Records) {
         return;
     };
     heading(&format!("Calls beside NewHope-1024 of Botan {version}"));
-    let mut keygen = keygen_of(polka::ffi::keygen, records);
-    let mut seal = three_in(polka::ffi::seal, [&records.public_key, &records.noise, &records.entry], 4133);
-    let mut open = three_in(polka::ffi::open, [&records.secret_key, &records.sealed, &records.dummy_noise], 16);
+    let mut keygen = keygen_of(ffi::keygen, records);
+    let mut seal = three_in(ffi::seal, [&records.public_key, &records.noise, &records.entry], 4133);
+    let mut open = three_in(ffi::open, [&records.secret_key, &records.sealed, &records.dummy_noise], 16);
     let mut least = [f64::MAX; 5];
     // Botan's runs are short, about as long as a batch of ours: a long mean would count what else the machine does.
     for _ in 0..100 {

@@ -1,6 +1,8 @@
-/* Runs the library on vector files, every buffer in an allocation of its own with its exact length, so that memcheck sees a read or
- * a write one byte outside. Prints counts, and fails on a mismatch.
- * usage: vectors FOLDER */
+/* The vectors by other hands for drivers in C: reads NAME.bin, and makes each call in buffers of their own. A field is a 32-bit length,
+ * the low byte first, and that many bytes; a case is its inputs, the lengths of its outputs, the number, an empty field, and the outputs. */
+#ifndef CASES_H
+#define CASES_H
+
 #include <stdio.h>
 #include <stdlib.h>
 #include <string.h>
@@ -31,7 +33,7 @@ static uint32_t number(const uint8_t *bytes) {
     return bytes[0] | (uint32_t)bytes[1] << 8 | (uint32_t)bytes[2] << 16 | (uint32_t)bytes[3] << 24;
 }
 
-/* A field is a 32-bit length and that many bytes. Answers 0 at the end of the file. */
+/* Answers 0 at the end of the file. */
 static int read_field(FILE *file, struct buffer *field) {
     uint8_t length[4];
     size_t got = fread(length, 1, 4, file);
@@ -98,17 +100,23 @@ static uint32_t call_shake256(struct buffer *in, struct buffer *out) {
     return 0;
 }
 
+typedef uint32_t run_function(struct buffer *in, struct buffer *out);
+
 struct call {
     const char *name;
     int inputs, outputs;
-    uint32_t (*run)(struct buffer *in, struct buffer *out);
+    size_t stack; /* what the header says */
+    run_function *run;
 };
 
 static const struct call calls[] = {
-    {"keygen", 3, 2, call_keygen},           {"check_secret_key", 1, 0, call_check_secret_key},
-    {"encapsulate", 2, 1, call_encapsulate}, {"decapsulate", 3, 1, call_decapsulate},
-    {"seal", 3, 1, call_seal},               {"open", 3, 1, call_open},
-    {"shake256", 1, 1, call_shake256},
+    {"keygen", 3, 2, POLKA_KEYGEN_STACK, call_keygen},
+    {"check_secret_key", 1, 0, POLKA_CHECK_SECRET_KEY_STACK, call_check_secret_key},
+    {"encapsulate", 2, 1, POLKA_ENCAPSULATE_STACK, call_encapsulate},
+    {"decapsulate", 3, 1, POLKA_DECAPSULATE_STACK, call_decapsulate},
+    {"seal", 3, 1, POLKA_SEAL_STACK, call_seal},
+    {"open", 3, 1, POLKA_OPEN_STACK, call_open},
+    {"shake256", 1, 1, POLKA_SHAKE256_STACK, call_shake256},
 };
 
 static uint8_t pattern(size_t i) {
@@ -125,7 +133,10 @@ static int as_expected(struct buffer out, struct buffer expected, int refused) {
     return refused || out.length == expected.length;
 }
 
-static int run_case(FILE *file, const struct call *call, struct buffer first) {
+/* How a driver makes a call. */
+typedef uint32_t make_function(run_function *run, struct buffer *in, struct buffer *out);
+
+static int run_case(FILE *file, const struct call *call, struct buffer first, make_function *make) {
     struct buffer in[MOST_FIELDS] = {first}, out[MOST_FIELDS];
     for (int i = 1; i < call->inputs; i++) {
         in[i] = next_field(file);
@@ -138,7 +149,7 @@ static int run_case(FILE *file, const struct call *call, struct buffer first) {
     }
     uint32_t expected = next_number(file);
     free(next_field(file).bytes);
-    uint32_t answer = call->run(in, out);
+    uint32_t answer = make(call->run, in, out);
     int right = answer == expected;
     for (int i = 0; i < call->outputs; i++) {
         struct buffer field = next_field(file);
@@ -152,27 +163,25 @@ static int run_case(FILE *file, const struct call *call, struct buffer first) {
     return right;
 }
 
-int main(int count, char **words) {
-    if (count != 2) {
-        fail("usage: vectors FOLDER");
+/* Every case of a call's file. Prints their count, and answers how many went wrong. */
+static int run_file(const char *folder, const struct call *call, make_function *make) {
+    char path[4096];
+    snprintf(path, sizeof path, "%s/%s.bin", folder, call->name);
+    FILE *file = fopen(path, "rb");
+    if (file == NULL) {
+        fail(path);
     }
-    int wrong = 0;
-    for (size_t i = 0; i < sizeof calls / sizeof *calls; i++) {
-        char path[4096];
-        snprintf(path, sizeof path, "%s/%s.bin", words[1], calls[i].name);
-        FILE *file = fopen(path, "rb");
-        if (file == NULL) {
-            fail(path);
-        }
-        int cases = 0, mismatches = 0;
-        struct buffer first;
-        while (read_field(file, &first)) {
-            cases++;
-            mismatches += !run_case(file, &calls[i], first);
-        }
-        fclose(file);
-        printf("%s: %d cases, %d mismatches\n", calls[i].name, cases, mismatches);
-        wrong += mismatches + (cases == 0);
+    int cases = 0, mismatches = 0;
+    struct buffer first;
+    while (read_field(file, &first)) {
+        cases++;
+        mismatches += !run_case(file, call, first, make);
     }
-    return wrong != 0;
+    fclose(file);
+    printf("%s: %d cases, %d mismatches\n", call->name, cases, mismatches);
+    return mismatches + (cases == 0);
 }
+
+#define EVERY_CALL(call) for (const struct call *call = calls; call < calls + sizeof calls / sizeof *calls; call++)
+
+#endif

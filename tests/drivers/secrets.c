@@ -1,6 +1,6 @@
 /* Makes one call with its secrets marked undefined: memcheck then reports each branch and each address that hangs on them.
  * The answer and the outputs are marked defined again when the call is over.
- * usage: secrets seal|open|keygen|encapsulate|decapsulate   under valgrind */
+ * usage: secrets keygen|check_secret_key|encapsulate|decapsulate|seal|open|shake256   under valgrind */
 #include <stdio.h>
 #include <stdlib.h>
 #include <string.h>
@@ -14,6 +14,7 @@ static uint8_t noise[POLKA_TRIPLE_NOISE_LENGTH], dummy_noise[POLKA_TRIPLE_NOISE_
 static uint8_t triple[POLKA_TRIPLE_LENGTH], dummy[POLKA_TRIPLE_LENGTH], triple_out[POLKA_TRIPLE_LENGTH];
 static uint8_t entry[POLKA_ENTRY_LENGTH], entry_out[POLKA_ENTRY_LENGTH];
 static uint8_t sealed[POLKA_SEALED_ENTRY_LENGTH], encapsulation[POLKA_ENCAPSULATION_LENGTH];
+static uint8_t digest[300];
 
 /* Bytes from a fixed seed, so that each run is the same. */
 static void fill(uint8_t *bytes, size_t length) {
@@ -55,6 +56,10 @@ static uint32_t keygen(void) {
                         sizeof secret_key);
 }
 
+static uint32_t check_secret_key(void) {
+    return polka_check_secret_key(secret_key, sizeof secret_key);
+}
+
 static uint32_t encapsulate(void) {
     return polka_encapsulate(public_key, sizeof public_key, triple, sizeof triple, encapsulation, sizeof encapsulation);
 }
@@ -62,6 +67,12 @@ static uint32_t encapsulate(void) {
 static uint32_t decapsulate(void) {
     return polka_decapsulate(secret_key, sizeof secret_key, encapsulation, sizeof encapsulation, dummy, sizeof dummy, triple_out,
                              sizeof triple_out);
+}
+
+/* Of any secret bytes; three blocks out. */
+static uint32_t shake256(void) {
+    polka_shake256(noise, sizeof noise, digest, sizeof digest);
+    return POLKA_DONE;
 }
 
 /* One function a secret: memcheck names it as the place that a value comes from. None is inlined, or its name is lost. */
@@ -109,10 +120,11 @@ static void all_defined(void) {
     VALGRIND_MAKE_MEM_DEFINED(entry_out, sizeof entry_out);
     VALGRIND_MAKE_MEM_DEFINED(sealed, sizeof sealed);
     VALGRIND_MAKE_MEM_DEFINED(encapsulation, sizeof encapsulation);
+    VALGRIND_MAKE_MEM_DEFINED(digest, sizeof digest);
 }
 
 int main(int count, char **words) {
-    must(count == 2, "usage: secrets seal|open|keygen|encapsulate|decapsulate");
+    must(count == 2, "usage: secrets CALL");
     uint32_t answer;
     do {
         fill(stream, sizeof stream);
@@ -143,6 +155,12 @@ int main(int count, char **words) {
     } else if (strcmp(words[1], "keygen") == 0) {
         secret_key_noise();
         answer = keygen();
+    } else if (strcmp(words[1], "check_secret_key") == 0) {
+        secret_key_s();
+        answer = check_secret_key();
+    } else if (strcmp(words[1], "shake256") == 0) {
+        secret_noise();
+        answer = shake256();
     } else if (strcmp(words[1], "encapsulate") == 0) {
         secret_triple();
         answer = encapsulate();

@@ -1,0 +1,108 @@
+//! Opens a whole log under one key, as a desk does when the races are over.
+//! usage: open_log KEY [LOG]     KEY is the file of a secret key. LOG is a file of sealed entries in a row, or a folder with one in each
+//!                               file, taken in the order of their names; without it the entries come on standard input
+//! Each entry has a line: its place (from 1, or its file), the number, and the entry in hexadecimal digits or `-`. A count ends the log,
+//! and the places of refused entries by number. Answers 0 if all were opened, 1 if one was refused, 2 if there is no key or no log.
+use std::error::Error;
+use std::fs::{self, File};
+use std::io::{self, Read, Write};
+use std::path::Path;
+use std::process::ExitCode;
+
+use polka::{SealedEntry, SecretKey, TripleNoise};
+
+/// Places, and the bytes that stand there.
+type Log = Box<dyn Iterator<Item = io::Result<(String, Vec<u8>)>>>;
+
+fn at_most(length: usize, source: &mut impl Read) -> io::Result<Vec<u8>> {
+    let mut bytes = vec![];
+    source.take(length as u64).read_to_end(&mut bytes)?;
+    Ok(bytes)
+}
+
+/// Entries in a row. What is left at the end is an entry too, of a wrong length.
+fn stream(mut source: impl Read + 'static) -> Log {
+    Box::new((1..).map_while(move |place: usize| match at_most(SealedEntry::LENGTH, &mut source) {
+        Ok(bytes) if bytes.is_empty() => None,
+        read => Some(read.map(|bytes| (place.to_string(), bytes))),
+    }))
+}
+
+/// An entry in each file. One byte more than an entry's tells that a file is too long.
+fn folder(path: &Path) -> io::Result<Log> {
+    let mut paths = fs::read_dir(path)?.map(|entry| Ok(entry?.path())).collect::<io::Result<Vec<_>>>()?;
+    paths.sort();
+    Ok(Box::new(paths.into_iter().map(|path| {
+        let place = path.file_name().unwrap_or_default().to_string_lossy().into_owned();
+        Ok((place, at_most(SealedEntry::LENGTH + 1, &mut File::open(path)?)?))
+    })))
+}
+
+/// Its bytes go from the file to their one place, and are judged once.
+fn read_key(path: &Path) -> Result<SecretKey, Box<dyn Error>> {
+    let mut file = File::open(path)?;
+    let key = SecretKey::filled_by(|bytes| file.read_exact(bytes))?;
+    if file.read(&mut [0])? > 0 {
+        return Err(polka::Error::WrongLength.into());
+    }
+    polka::check_secret_key(&key)?;
+    Ok(key)
+}
+
+/// Whether all entries were opened.
+fn open_log(key: &SecretKey, log: Log, out: &mut impl Write) -> Result<bool, Box<dyn Error>> {
+    let mut random = File::open("/dev/urandom")?;
+    let mut opened = 0;
+    let mut refused = vec![];
+    for entry in log {
+        let (place, bytes) = entry?;
+        let dummy = TripleNoise::filled_by(|bytes| random.read_exact(bytes))?;
+        match SealedEntry::try_from(&bytes[..]).and_then(|sealed| polka::open(key, &sealed, dummy)) {
+            Ok(entry) => {
+                let digits: String = entry.as_bytes().iter().map(|byte| format!("{byte:02x}")).collect();
+                writeln!(out, "{place}: 0 {digits}")?;
+                opened += 1;
+            }
+            Err(refusal) => {
+                writeln!(out, "{place}: {} -", refusal.number())?;
+                refused.push((refusal, place));
+            }
+        }
+    }
+    writeln!(out, "{} entries: {opened} opened, {} refused", opened + refused.len(), refused.len())?;
+    for &kind in polka::Error::ALL {
+        let places: Vec<&str> = refused.iter().filter(|(refusal, _)| *refusal == kind).map(|(_, place)| &place[..]).collect();
+        if !places.is_empty() {
+            writeln!(out, "refused under {}, {}: {}", kind.number(), kind.word(), places.join(", "))?;
+        }
+    }
+    Ok(refused.is_empty())
+}
+
+/// The program, over its words.
+pub fn run(words: &[String], out: &mut impl Write) -> Result<bool, Box<dyn Error>> {
+    let (key, log) = match words {
+        [key] => (key, None),
+        [key, log] => (key, Some(Path::new(log))),
+        _ => return Err("usage: open_log KEY [LOG]".into()),
+    };
+    let key = read_key(Path::new(key)).map_err(|error| format!("{key}: {error}"))?;
+    let log = match log {
+        None => stream(io::stdin()),
+        Some(path) if path.is_dir() => folder(path)?,
+        Some(path) => stream(io::BufReader::new(File::open(path).map_err(|error| format!("{}: {error}", path.display()))?)),
+    };
+    open_log(&key, log, out)
+}
+
+fn main() -> ExitCode {
+    let words: Vec<String> = std::env::args().skip(1).collect();
+    match run(&words, &mut io::stdout().lock()) {
+        Ok(true) => ExitCode::SUCCESS,
+        Ok(false) => ExitCode::from(1),
+        Err(error) => {
+            eprintln!("{error}");
+            ExitCode::from(2)
+        }
+    }
+}
