@@ -13,6 +13,7 @@ pub mod Halving
 -- on lists of numbers, for every rule and transform
 pub mod Numbers
 pub mod Elements
+pub mod Values
 pub mod NumberTransform
 pub mod NumberRing
 -- on lists of numbers, X^n = - 1

@@ -26,8 +26,8 @@ pub fn check_secret_key(key: &[u8]) -> Answer
     }
     let forward = ntt::forward_factors();
     let backward = ntt::backward_factors();
-    let read = keys::read_secret_key(key, &forward, &backward);
-    read.answer
+    let checked = keys::check_secret_key(key, &forward, &backward);
+    checked.answer
 }
 
 // ---- keygen

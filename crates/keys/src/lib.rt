@@ -20,7 +20,7 @@ ghost use Rattle.sampling.specs.Noise.{ternaryNoise};
 ghost use Rattle.sampling.specs.Stream.{uniformElement};
 ghost use Rattle.scheme.specs.Answers as Struct;
 ghost use Rattle.records.specs.Layout.{publicKeyLength, secretKeyLength};
-ghost use Rattle.records.specs.Records.{firstOf, secondOf};
+ghost use Rattle.records.specs.Records.{firstOf, secondOf, secretOf};
 ghost use Rattle.keys.specs.Keys.{publicAnswer, verdictAnswer, secretAnswer, elementsOf, generatedAnswer, keygenB, tripleNoiseLength, noiseTriple};
 ghost use Rattle.keys.specs.Prepared.{Prepared};
 
@@ -66,32 +66,62 @@ fn verdict_answer(check: KeyCheck) -> Answer
     }
 }
 
-// What the checks of a secret key answer, and the key prepared.
+// What the checks of a secret key answer, and the spectra of a, b and s: all that the key check needs.
+pub struct SecretRecord {
+    pub answer: Answer,
+    pub a: Spectrum,
+    pub b: Spectrum,
+    pub s: Spectrum,
+}
+
+// Of a record with the mark "SDK".
+pub fn check_secret_key(bytes: &[u8], forward: &[u16], backward: &[u16]) -> SecretRecord
+    requires { ⌜ length (now bytes) ≡ secretKeyLength ⌝ }
+    requires { ⌜ (now forward ≡ forwardFactors) × (now backward ≡ backwardFactors) ⌝ }
+    ensures { λ k. ⌜ k .answer ≡ secretAnswer (now (bytes .entry)) ⌝ }
+    ensures { λ k. ⌜ (k .a ≡ spectrumOf (firstOf (now (bytes .entry)))) × (k .b ≡ spectrumOf (secondOf (now (bytes .entry)))) ⌝ }
+    ensures { λ k. ⌜ k .s ≡ spectrumOf (secretOf (now (bytes .entry))) ⌝ }
+{
+    let read = records::read_record(bytes, SECRET_KEY_MARK, 1);
+    let record = records::front_answer(read);
+    let first = read.first;
+    let second = read.second;
+    let codes = records::check_codes(&bytes[THIRD..SECRET_KEY_LENGTH]);
+    let secret = encoding::decode_ternary(&bytes[THIRD..SECRET_KEY_LENGTH]);
+    let checked = scheme::check_key(first, second, secret, forward, backward);
+    let check = checked.check;
+    let verdict = verdict_answer(check);
+    let a = checked.a;
+    let b = checked.b;
+    let s = checked.s;
+    SecretRecord {
+        answer: records::and_then(record, records::and_then(codes, verdict)),
+        a,
+        b,
+        s,
+    }
+}
+
+// What the checks of a secret key answer, and the key prepared for openings.
 pub struct SecretKey {
     pub answer: Answer,
     pub key: scheme::PreparedKey,
 }
 
-// Of a record with the mark "SDK".
 pub fn read_secret_key(bytes: &[u8], forward: &[u16], backward: &[u16]) -> SecretKey
     requires { ⌜ length (now bytes) ≡ secretKeyLength ⌝ }
     requires { ⌜ (now forward ≡ forwardFactors) × (now backward ≡ backwardFactors) ⌝ }
     ensures { λ k. ⌜ k .answer ≡ secretAnswer (now (bytes .entry)) ⌝ }
     ensures { λ k. ⌜ Prepared (elementsOf (now (bytes .entry))) (k .key) ⌝ }
 {
-    let read = records::read_record(bytes, SECRET_KEY_MARK, 1);
-    let record = records::front_answer(read);
-    let a = read.first;
-    let b = read.second;
-    let codes = records::check_codes(&bytes[THIRD..SECRET_KEY_LENGTH]);
-    let s = encoding::decode_ternary(&bytes[THIRD..SECRET_KEY_LENGTH]);
-    let checked = scheme::secret_key(a, b, s, forward, backward);
-    let check = checked.check;
-    let key = checked.key;
-    let verdict = verdict_answer(check);
+    let checked = check_secret_key(bytes, forward, backward);
+    let answer = checked.answer;
+    let a = checked.a;
+    let b = checked.b;
+    let s = checked.s;
     SecretKey {
-        answer: records::and_then(record, records::and_then(codes, verdict)),
-        key,
+        answer,
+        key: scheme::prepare(a, b, s),
     }
 }
 

@@ -13,3 +13,4 @@ pub mod Levels
 pub mod Trees
 -- Products and inverses by the transform.
 pub mod Transforms
+pub mod Spectra

@@ -6,12 +6,12 @@ use native.Mathlib.Nat.{mod-eq-of-lt, one-mul}
 use native.Mathlib.Omega.{arith}
 use lib.ListN.{length, getD, set, length-replicate, getD-replicate}
 use Rattle.lists.specs.Table.{zeros}
-use Rattle.lists.proofs.Tables.{table-is}
+use Rattle.lists.proofs.Tables.{table-is, table-same}
 use Rattle.lists.proofs.Zeros.{size-zeros}
 use Rattle.algebra.specs.Ring.{CommRing}
 use Rattle.algebra.specs.Polynomials.{negacyclic}
 use Rattle.algebra.specs.Numbers as N
-use Rattle.algebra.specs.Numbers.{mulMod}
+use Rattle.algebra.specs.Numbers.{addMod, mulMod}
 use Rattle.algebra.proofs.Ring.{ring}
 use Rattle.algebra.proofs.Residues.{ℤ/}
 use Rattle.algebra.proofs.Numbers.{below-at}
@@ -84,6 +84,12 @@ sum-less a b ha hb = ap (λ (x : List ℕ). difference x b) (sym (sum-list x y))
 
     cancel : (x y : Elements) → x ⊕ y ⊕ neg y ≡ x
     cancel x y = simp ring
+
+-- two summands exchanged, for all words
+pub sum-swapped : (p c e : List ℕ) → sum p (sum c e) ≡ sum c (sum p e)
+unfolding N.plus
+sum-swapped p c e = table-same n _ _ (λ k h.
+    ap (addMod q (getD p k 0)) (E.plus-at q q-positive n c e k h) ∙ omega arith ∙ sym (ap (addMod q (getD c k 0)) (E.plus-at q q-positive n p e k h)))
 
 -- ---- multiples
 

@@ -33,7 +33,7 @@ unfolding N.valueMod
 value-of-zeros x zero = refl
 value-of-zeros x (suc m) = rw (value-of-zeros x m, mul-zero x) refl
 
-spectrum-of-zeros : spectrumOf (zeros n) ≡ zeros n
+pub spectrum-of-zeros : spectrumOf (zeros n) ≡ zeros n
 unfolding spectrumOf
 spectrum-of-zeros = sym (zeros-table n _ (λ k h. value-of-zeros _ n))
 

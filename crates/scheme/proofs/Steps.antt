@@ -7,11 +7,12 @@ use lib.ListN.{length}
 use Rattle.exactness.specs.Scheme as Any
 use Rattle.exactness.specs.Scheme.{provided}
 use Rattle.ntt.specs.Spectrum.{spectrumOf, coefficientsOf, pointwise}
-use Rattle.ntt.proofs.Spectrum.{length-spectrum}
+use Rattle.ntt.proofs.Spectrum.{length-spectrum, length-pointwise, coefficients-of-spectrum}
 use Rattle.ring.specs.Ring.{n, fifth, sum, difference, multiple, product}
-use Rattle.ring.proofs.RingLaws.{difference-element}
+use Rattle.ring.proofs.RingLaws.{sum-element, difference-element, multiple-element, sum-swapped}
 use Rattle.ring.proofs.Transforms.{product-by-spectra, left-through, right-through}
-use Rattle.scheme.specs.Scheme.{Triple, Outcome, found, failed, keyNoise, masked, summed, core, decapsulation, recovered, recovers?, withoutDummy, ternary?, judged}
+use Rattle.ring.proofs.Spectra.{difference-reduced, coefficients-through, spectrum-through, coefficients-of-sum, coefficients-of-difference, coefficients-of-multiple}
+use Rattle.scheme.specs.Scheme.{Triple, Outcome, found, failed, keyNoise, masked, summed, noisy, core, decapsulation, recovered, recovers?, withoutDummy, ternary?, judged}
 
 -- triples are known by their parts
 pub triple-same : {t u : Triple} → t .r ≡ u .r → t .e1 ≡ u .e1 → t .e2 ≡ u .e2 → t ≡ u
@@ -33,16 +34,59 @@ pub noise-through : (a b s : List ℕ) → length a ≡ n → length s ≡ n →
 unfolding Any.keyNoise
 noise-through a b s ha hs = ap (difference (multiple fifth b)) (left-through a (coefficientsOf (spectrumOf s)) ha ∙ right-through a s hs)
 
--- R, from the spectrum v of s2 - e2 and that of the inverse
-pub recovered-by-spectra : (i s2 e2 v w : List ℕ) → length i ≡ n → v ≡ spectrumOf (difference s2 e2) → w ≡ pointwise v i
-    → coefficientsOf w ≡ product (difference s2 e2) (coefficientsOf i)
-recovered-by-spectra i s2 e2 v w size ev ew =
-    ap coefficientsOf (ew ∙ ap (λ (x : List ℕ). pointwise x i) ev)
-    ∙ product-by-spectra (spectrumOf d) i (length-spectrum d (difference-element s2 e2 .size)) size
-    ∙ left-through d (coefficientsOf i) (difference-element s2 e2 .size)
-  where
-    d : List ℕ
-    d = difference s2 e2
+-- ---- decapsulation, with the sums as spectra
+
+-- step 1: c + (a × r + e), where w is the spectrum of c + e
+pub summed-by-spectra : (a r e c v w : List ℕ) → length a ≡ n → length r ≡ n → w ≡ spectrumOf (sum c e) → v ≡ sum (pointwise a r) w
+    → v ≡ spectrumOf (summed (coefficientsOf a) (coefficientsOf r) e c)
+unfolding Any.summed Any.masked
+summed-by-spectra a r e c v w ha hr ew ev =
+    ev ∙ ap (sum (pointwise a r)) ew
+    ∙ sym (spectrum-through _ (sum-element (pointwise a r) (spectrumOf (sum c e))))
+    ∙ ap spectrumOf
+    (coefficients-of-sum (pointwise a r) (spectrumOf (sum c e)) (length-pointwise a r) (length-spectrum (sum c e) (sum-element c e .size))
+    ∙ ap₂ sum (product-by-spectra a r ha hr) (coefficients-through (sum c e) (sum-element c e))
+    ∙ sum-swapped (product (coefficientsOf a) (coefficientsOf r)) c e)
+
+-- .. from the spectrum v of r
+pub summed-of-spectrum : (a r e c v x : List ℕ) → length r ≡ n → v ≡ spectrumOf r → x ≡ spectrumOf (summed (coefficientsOf a) (coefficientsOf v) e c)
+    → x ≡ spectrumOf (summed (coefficientsOf a) r e c)
+unfolding Any.summed Any.masked
+summed-of-spectrum a r e c v x size ev ex =
+    ex
+    ∙ ap (λ (p : List ℕ). spectrumOf (sum c (sum p e)))
+    (ap (λ (w : List ℕ). product (coefficientsOf a) (coefficientsOf w)) ev ∙ right-through (coefficientsOf a) r size)
+
+-- step 2: m = s2 - 5 × p
+pub noisy-by-spectra : (v p : List ℕ) → length v ≡ n → length p ≡ n → coefficientsOf (difference v (multiple 5 p)) ≡ noisy (coefficientsOf v) (coefficientsOf p)
+unfolding Any.noisy
+noisy-by-spectra v p hv hp =
+    coefficients-of-difference v (multiple 5 p) hv (multiple-element 5 p .size) ∙ ap (difference (coefficientsOf v)) (coefficients-of-multiple 5 p hp)
+
+-- step 4: R, from the spectrum w of E2
+pub r-by-spectra : (i v e2 w : List ℕ) → length i ≡ n → length v ≡ n → length e2 ≡ n → w ≡ spectrumOf e2
+    → coefficientsOf (pointwise (difference v w) i) ≡ product (difference (coefficientsOf v) e2) (coefficientsOf i)
+r-by-spectra i v e2 w hi hv he ew =
+    ap (λ (x : List ℕ). coefficientsOf (pointwise (difference v x) i)) ew
+    ∙ product-by-spectra (difference v (spectrumOf e2)) i (difference-element v (spectrumOf e2) .size) hi
+    ∙ ap (λ (x : List ℕ). product x (coefficientsOf i))
+    (coefficients-of-difference v (spectrumOf e2) hv (length-spectrum e2 he)
+    ∙ ap (difference (coefficientsOf v)) (coefficients-of-spectrum e2 he) ∙ difference-reduced (coefficientsOf v) e2)
+
+-- .. and E1, from the spectrum r of R
+pub e1-by-spectra : (a v r : List ℕ) → length a ≡ n → length v ≡ n → length r ≡ n
+    → coefficientsOf (difference v (pointwise a r)) ≡ difference (coefficientsOf v) (product (coefficientsOf a) (coefficientsOf r))
+e1-by-spectra a v r ha hv hr =
+    coefficients-of-difference v (pointwise a r) hv (length-pointwise a r) ∙ ap (difference (coefficientsOf v)) (product-by-spectra a r ha hr)
+
+-- the sums are elements
+pub summed-through : (a r e c : List ℕ) → coefficientsOf (spectrumOf (summed a r e c)) ≡ summed a r e c
+unfolding Any.summed
+summed-through a r e c = coefficients-through _ (sum-element c (masked a r e))
+
+pub summed-size : (a r e c v : List ℕ) → v ≡ spectrumOf (summed a r e c) → length v ≡ n
+unfolding Any.summed
+summed-size a r e c v h = ap length h ∙ length-spectrum _ (sum-element c (masked a r e) .size)
 
 -- the two tests
 judged-by : (dummy t : Triple) (x y : Bool) → recovers? t ≡ x → ternary? (withoutDummy dummy t) ≡ y
@@ -72,9 +116,9 @@ pub masked-through : (x : List ℕ) → length x ≡ n → (r e : List ℕ) → 
 unfolding Any.masked
 masked-through x size r e = ap (λ (y : List ℕ). sum y e) (left-through x r size)
 
-summed-through : (x : List ℕ) → length x ≡ n → (r e c : List ℕ) → summed (coefficientsOf (spectrumOf x)) r e c ≡ summed x r e c
+summed-by-key : (x : List ℕ) → length x ≡ n → (r e c : List ℕ) → summed (coefficientsOf (spectrumOf x)) r e c ≡ summed x r e c
 unfolding Any.summed
-summed-through x size r e c = ap (sum c) (masked-through x size r e)
+summed-by-key x size r e c = ap (sum c) (masked-through x size r e)
 
 module _ (a b i s : List ℕ) (ha : length a ≡ n) (hb : length b ≡ n) (hi : length i ≡ n) (hs : length s ≡ n) where
   recovered-through : (s1 s2 e2 : List ℕ) → recovered (coefficientsOf (spectrumOf a)) (coefficientsOf (spectrumOf i)) s1 s2 e2 ≡ recovered a i s1 s2 e2
@@ -89,7 +133,7 @@ module _ (a b i s : List ℕ) (ha : length a ≡ n) (hb : length b ≡ n) (hi : 
   unfolding Any.decapsulation Any.core
   decapsulation-through dummy c1 c2 =
       ap₂ (λ (s1 s2 : List ℕ). core (coefficientsOf (spectrumOf a)) (coefficientsOf (spectrumOf i)) dummy s1 s2 (product s1 (coefficientsOf (spectrumOf s))))
-      (summed-through a ha (dummy .r) (dummy .e1) c1) (summed-through b hb (dummy .r) (dummy .e2) c2)
+      (summed-by-key a ha (dummy .r) (dummy .e1) c1) (summed-by-key b hb (dummy .r) (dummy .e2) c2)
       ∙ ap (core (coefficientsOf (spectrumOf a)) (coefficientsOf (spectrumOf i)) dummy s1 s2) (right-through s1 s hs)
       ∙ ap (judged dummy) (recovered-through s1 s2 _)
     where

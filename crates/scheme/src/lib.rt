@@ -7,8 +7,8 @@ ghost use mathlib.Core.Path.{_≡_};
 ghost use mathlib.Core.Bool.{decide};
 ghost use Rattle.ntt.specs.Spectrum.{spectrumOf, coefficientsOf};
 ghost use Rattle.ntt.specs.Factors.{forwardFactors, backwardFactors};
-ghost use Rattle.ring.specs.Ring.{product};
-ghost use Rattle.ring.specs.Invertible.{invertible?, inverseOf};
+ghost use Rattle.ring.specs.Invertible.{invertible?};
+ghost use Rattle.ring.specs.Reciprocals.{reciprocalsOf};
 ghost use Rattle.scheme.specs.Scheme.{keyElement, keyNoise, masked, summed, noisy, recovered, recovers?, withoutDummy, ternary?, judged, core, decapsulation};
 ghost use Rattle.scheme.specs.Answers.{verdict, keyCheck, tripleOf, answer, opened};
 
@@ -34,18 +34,20 @@ pub enum KeyCheck {
     KeyMismatch,
 }
 
+// What the key check says of a secret key, and the spectra of a, b and s.
+pub struct CheckedKey {
+    pub a: Spectrum,
+    pub b: Spectrum,
+    pub s: Spectrum,
+    pub check: KeyCheck,
+}
+
 // A secret key prepared: the spectra of a, b, s and of the inverse of b.
 pub struct PreparedKey {
     pub a: Spectrum,
     pub b: Spectrum,
     pub s: Spectrum,
     pub inverse: Spectrum,
-}
-
-// What the key check says of a secret key, and the key prepared.
-pub struct CheckedKey {
-    pub key: PreparedKey,
-    pub check: KeyCheck,
 }
 
 // Key generation from a, s and e. It tries once.
@@ -97,7 +99,7 @@ fn verdict(invertible: bool, ternary: bool) -> KeyCheck
 }
 
 // The key check, beside the key's spectra.
-pub fn secret_key(
+pub fn check_key(
     a: Element,
     b: Element,
     s: Element,
@@ -106,8 +108,7 @@ pub fn secret_key(
 ) -> CheckedKey
     requires { ⌜ (now forward ≡ forwardFactors) × (now backward ≡ backwardFactors) ⌝ }
     ensures { λ r. ⌜ r .check ≡ keyCheck a b s ⌝ }
-    ensures { λ r. ⌜ (r .key .a ≡ spectrumOf a) × (r .key .b ≡ spectrumOf b) × (r .key .s ≡ spectrumOf s) ⌝ }
-    ensures { λ r. ⌜ r .key .inverse ≡ spectrumOf (inverseOf b) ⌝ }
+    ensures { λ r. ⌜ (r .a ≡ spectrumOf a) × (r .b ≡ spectrumOf b) × (r .s ≡ spectrumOf s) ⌝ }
 {
     let a_spectrum = ntt::forward(a, forward);
     let b_spectrum = ntt::forward(b, forward);
@@ -116,13 +117,22 @@ pub fn secret_key(
     let noise = key_noise(a_spectrum, b, s_spectrum, backward);
     let ternary = ring::is_within(noise, 1);
     CheckedKey {
-        key: PreparedKey {
-            a: a_spectrum,
-            b: b_spectrum,
-            s: s_spectrum,
-            inverse: ring::reciprocals(b_spectrum),
-        },
+        a: a_spectrum,
+        b: b_spectrum,
+        s: s_spectrum,
         check: verdict(!zero, ternary),
+    }
+}
+
+// A key with the inverse of its b, from the spectra of a, b and s; zeros for an inverse that does not exist.
+pub fn prepare(a: Spectrum, b: Spectrum, s: Spectrum) -> PreparedKey
+    ensures { λ k. ⌜ (k .a ≡ a) × (k .b ≡ b) × (k .s ≡ s) × (k .inverse ≡ reciprocalsOf b) ⌝ }
+{
+    PreparedKey {
+        a,
+        b,
+        s,
+        inverse: ring::reciprocals(b),
     }
 }
 
@@ -167,63 +177,70 @@ pub struct Decapsulation {
     pub triple: Triple,
 }
 
-// Step 1: the encapsulation of the dummy is added.
-pub fn add_dummy(
-    a: Spectrum,
-    b: Spectrum,
-    dummy: Triple,
-    c: Encapsulation,
-    forward: &[u16],
-    backward: &[u16],
-) -> Encapsulation
-    requires { ⌜ (now forward ≡ forwardFactors) × (now backward ≡ backwardFactors) ⌝ }
-    ensures { λ s. ⌜ (s .c1 ≡ summed (coefficientsOf a) (dummy .r) (dummy .e1) (c .c1)) × (s .c2 ≡ summed (coefficientsOf b) (dummy .r) (dummy .e2) (c .c2)) ⌝ }
+// The sums of step 1, as spectra: so a product with either takes no transform.
+pub struct Sums {
+    pub first: Spectrum,
+    pub second: Spectrum,
+}
+
+// Step 1, of either half: c and the dummy's a × r + e, from the spectra of a and r.
+fn add_masked(a: Spectrum, r: Spectrum, e: Element, c: Element, forward: &[u16]) -> Spectrum
+    requires { ⌜ now forward ≡ forwardFactors ⌝ }
+    ensures { λ v. ⌜ v ≡ spectrumOf (summed (coefficientsOf a) (coefficientsOf r) e c) ⌝ }
 {
-    let d = encapsulate(a, b, dummy, forward, backward);
+    let rest = ntt::forward(ring::sum(c, e), forward);
+    ring::sum(ntt::pointwise(a, r), rest)
+}
+
+// Step 1: the encapsulation of the dummy is added.
+pub fn add_dummy(a: Spectrum, b: Spectrum, dummy: Triple, c: Encapsulation, forward: &[u16]) -> Sums
+    requires { ⌜ now forward ≡ forwardFactors ⌝ }
+    ensures { λ s. ⌜ s .first ≡ spectrumOf (summed (coefficientsOf a) (dummy .r) (dummy .e1) (c .c1)) ⌝ }
+    ensures { λ s. ⌜ s .second ≡ spectrumOf (summed (coefficientsOf b) (dummy .r) (dummy .e2) (c .c2)) ⌝ }
+{
+    let r = dummy.r;
+    let e1 = dummy.e1;
+    let e2 = dummy.e2;
     let c1 = c.c1;
     let c2 = c.c2;
-    let d1 = d.c1;
-    let d2 = d.c2;
-    Encapsulation {
-        c1: ring::sum(c1, d1),
-        c2: ring::sum(c2, d2),
+    let r_spectrum = ntt::forward(r, forward);
+    Sums {
+        first: add_masked(a, r_spectrum, e1, c1, forward),
+        second: add_masked(b, r_spectrum, e2, c2, forward),
     }
 }
 
-// The product of the first sum with s.
-pub fn times_secret(s1: Element, s: Spectrum, forward: &[u16], backward: &[u16]) -> Element
-    requires { ⌜ (now forward ≡ forwardFactors) × (now backward ≡ backwardFactors) ⌝ }
-    ensures { λ r. ⌜ r ≡ product s1 (coefficientsOf s) ⌝ }
+// Step 2: m, from the second sum and the product of the first with s.
+pub fn noisy(second: Spectrum, product: Spectrum, backward: &[u16]) -> Element
+    requires { ⌜ now backward ≡ backwardFactors ⌝ }
+    ensures { λ m. ⌜ m ≡ noisy (coefficientsOf second) (coefficientsOf product) ⌝ }
 {
-    ring::product_of_spectra(ntt::forward(s1, forward), s, backward)
+    ntt::backward(
+        ring::difference(second, ring::multiple(5, product)),
+        backward,
+    )
 }
 
-// Step 2: m, from the product of the first sum with s.
-pub fn noisy(s2: Element, s1s: Element) -> Element
-    ensures { λ m. ⌜ m ≡ noisy s2 s1s ⌝ }
-{
-    ring::difference(s2, ring::multiple(5, s1s))
-}
-
-// Step 4: R, E1 and E2, from the sums and E2. The spectrum of R is a product, so R is not transformed again.
+// Step 4: R, E1 and E2, from the sums and E2.
 pub fn recover(
     a: Spectrum,
     inverse: Spectrum,
-    sums: Encapsulation,
+    sums: Sums,
     e2: Element,
     forward: &[u16],
     backward: &[u16],
 ) -> Triple
     requires { ⌜ (now forward ≡ forwardFactors) × (now backward ≡ backwardFactors) ⌝ }
-    ensures { λ t. ⌜ tripleOf t ≡ recovered (coefficientsOf a) (coefficientsOf inverse) (sums .c1) (sums .c2) e2 ⌝ }
+    ensures { λ t. ⌜ tripleOf t ≡ recovered (coefficientsOf a) (coefficientsOf inverse) (coefficientsOf (sums .first)) (coefficientsOf (sums .second)) e2 ⌝ }
 {
-    let s1 = sums.c1;
-    let s2 = sums.c2;
-    let r_spectrum = ntt::pointwise(ntt::forward(ring::difference(s2, e2), forward), inverse);
-    let e1 = ring::difference(s1, ring::product_of_spectra(a, r_spectrum, backward));
+    let first = sums.first;
+    let second = sums.second;
+    let rest = ring::difference(second, ntt::forward(e2, forward));
+    let r_spectrum = ntt::pointwise(rest, inverse);
+    let e1_spectrum = ring::difference(first, ntt::pointwise(a, r_spectrum));
     Triple {
         r: ntt::backward(r_spectrum, backward),
-        e1,
+        e1: ntt::backward(e1_spectrum, backward),
         e2,
     }
 }
@@ -297,16 +314,16 @@ pub fn core(
     a: Spectrum,
     inverse: Spectrum,
     dummy: Triple,
-    sums: Encapsulation,
-    s1s: Element,
+    sums: Sums,
+    product: Spectrum,
     forward: &[u16],
     backward: &[u16],
 ) -> Decapsulation
     requires { ⌜ (now forward ≡ forwardFactors) × (now backward ≡ backwardFactors) ⌝ }
-    ensures { λ d. ⌜ d ≡ answer (core (coefficientsOf a) (coefficientsOf inverse) (tripleOf dummy) (sums .c1) (sums .c2) s1s) ⌝ }
+    ensures { λ d. ⌜ d ≡ answer (core (coefficientsOf a) (coefficientsOf inverse) (tripleOf dummy) (coefficientsOf (sums .first)) (coefficientsOf (sums .second)) (coefficientsOf product)) ⌝ }
 {
-    let s2 = sums.c2;
-    let e2 = ring::remainders(noisy(s2, s1s));
+    let second = sums.second;
+    let e2 = ring::remainders(noisy(second, product, backward));
     judge(dummy, recover(a, inverse, sums, e2, forward, backward))
 }
 
@@ -325,8 +342,8 @@ pub fn decapsulate(
     let b = k.b;
     let s = k.s;
     let inverse = k.inverse;
-    let sums = add_dummy(a, b, dummy, c, forward, backward);
-    let s1 = sums.c1;
-    let s1s = times_secret(s1, s, forward, backward);
-    core(a, inverse, dummy, sums, s1s, forward, backward)
+    let sums = add_dummy(a, b, dummy, c, forward);
+    let first = sums.first;
+    let product = ntt::pointwise(first, s);
+    core(a, inverse, dummy, sums, product, forward, backward)
 }

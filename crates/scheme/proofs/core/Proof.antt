@@ -1,12 +1,18 @@
 use mathlib.Core.Path.{ap, _∙_}
-use borrow.Author.Needs.{needs}
 use Rattle.exactness.specs.Scheme as Any
 use Rattle.ntt.specs.Spectrum.{coefficientsOf}
 use Rattle.ring.specs.Centred.{remainders}
 use Rattle.scheme.specs.Scheme.{Triple, recovered, judged}
 use Rattle.scheme.specs.Answers.{tripleOf, answer}
+use borrow.Author.Needs.{needs}
 use Rattle.scheme.proofs.core.Statement.{statement}
 use Rattle.scheme.proofs.core.Tie as tie
+use Rattle.scheme.proofs.core.Reads as reads
+use Rattle.scheme.proofs.core.Lts as lts
+use Rattle.ring.proofs.remainders.Reads as remainders-reads
+use Rattle.scheme.proofs.judge.Reads as judge-reads
+use Rattle.scheme.proofs.noisy.Reads as noisy-reads
+use Rattle.scheme.proofs.recover.Reads as recover-reads
 
 noisy-requires : tie.Need-noisy-requires
 noisy-requires c κs = search needs
@@ -28,7 +34,9 @@ returns c =
     let e2 = read .remainders .ensures ∙ ap remainders (read .before .noisy .ensures) in
     c .judge .ensures
     ∙ ap (λ (t : Triple). answer (judged (tripleOf (args .dummy)) t))
-    (c .before .recover .ensures ∙ ap (recovered (coefficientsOf (args .a)) (coefficientsOf (args .inverse)) (args .sums .c1) (args .sums .c2)) e2)
+    (c .before .recover .ensures
+    ∙ ap (recovered (coefficientsOf (args .a)) (coefficientsOf (args .inverse)) (coefficientsOf (args .sums .first)) (coefficientsOf (args .sums .second))) e2)
 
 pub core-spec : {M : Type 1} → statement M
-core-spec = tie.close (tie.spec noisy-requires remainders-requires recover-requires judge-requires returns)
+core-spec =
+    tie.close (tie.spec noisy-requires remainders-requires recover-requires judge-requires returns)

@@ -1,9 +1,16 @@
-use mathlib.Core.Path.{ap, _∙_}
-use Rattle.exactness.specs.Scheme as Any
+use mathlib.Core.Path.{_≡_, ap, _∙_}
+use lib.ListN.{length}
+use Rattle.ntt.specs.Spectrum.{coefficientsOf}
 use Rattle.ring.specs.Ring.{difference}
+use Rattle.scheme.proofs.Steps.{noisy-by-spectra}
 use borrow.Author.Needs.{needs}
 use Rattle.scheme.proofs.noisy.Statement.{statement}
 use Rattle.scheme.proofs.noisy.Tie as tie
+use Rattle.scheme.proofs.noisy.Reads as reads
+use Rattle.scheme.proofs.noisy.Lts as lts
+use Rattle.ntt.proofs.backward.Reads as backward-reads
+use Rattle.ring.proofs.difference.Reads as difference-reads
+use Rattle.ring.proofs.multiple.Reads as multiple-reads
 
 multiple-requires : tie.Need-multiple-requires
 multiple-requires c κs = search needs
@@ -11,10 +18,18 @@ multiple-requires c κs = search needs
 difference-requires : tie.Need-difference-requires
 difference-requires c κs = search needs
 
+backward-requires : tie.Need-backward-requires
+backward-requires c κs = search needs
+
 returns : tie.Need-returns
-unfolding Any.noisy
 returns c =
-    c .difference .ensures ∙ ap (difference (c .before .before .args .s2)) (c .before .multiple .ensures)
+    let start = c .before .before .before .before in
+    let args = start .args in
+    let hv : length (args .second) ≡ 1024 = search (needs, start .good .0) in
+    let hp : length (args .product) ≡ 1024 = search (needs, start .good .1 .0) in
+    c .backward .ensures
+    ∙ ap coefficientsOf (c .before .difference .ensures ∙ ap (difference (args .second)) (c .before .before .multiple .ensures))
+    ∙ noisy-by-spectra (args .second) (args .product) hv hp
 
 pub noisy-spec : {M : Type 1} → statement M
-noisy-spec = tie.close (tie.spec multiple-requires difference-requires returns)
+noisy-spec = tie.close (tie.spec multiple-requires difference-requires backward-requires returns)

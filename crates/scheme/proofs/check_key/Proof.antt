@@ -3,18 +3,23 @@ use mathlib.Core.Bool.{not}
 use mathlib.Core.List.{List}
 use Prim.Native.Nat.{ℕ}
 use lib.ListN.{length}
-use borrow.Author.Needs.{needs}
-use Rattle.exactness.specs.Scheme as Any
 use Rattle.ntt.specs.Spectrum.{coefficientsOf}
-use Rattle.ring.specs.Ring.{fifth, multiple, difference, product}
 use Rattle.ring.specs.Centred.{within?}
-use Rattle.ring.specs.Reciprocals.{hasZero, reciprocalsOf}
-use Rattle.ring.proofs.Transforms.{zero-decides, inverse-spectrum}
+use Rattle.ring.specs.Reciprocals.{hasZero}
+use Rattle.ring.proofs.Transforms.{zero-decides}
 use Rattle.scheme.specs.Scheme.{keyNoise}
 use Rattle.scheme.specs.Answers.{verdict}
 use Rattle.scheme.proofs.Steps.{noise-through}
-use Rattle.scheme.proofs.secret_key.Statement.{statement}
-use Rattle.scheme.proofs.secret_key.Tie as tie
+use borrow.Author.Needs.{needs}
+use Rattle.scheme.proofs.check_key.Statement.{statement}
+use Rattle.scheme.proofs.check_key.Tie as tie
+use Rattle.scheme.proofs.check_key.Reads as reads
+use Rattle.scheme.proofs.check_key.Lts as lts
+use Rattle.ntt.proofs.forward.Reads as forward-reads
+use Rattle.ring.proofs.has_zero.Reads as has-zero-reads
+use Rattle.ring.proofs.is_within.Reads as is-within-reads
+use Rattle.scheme.proofs.key_noise.Reads as key-noise-reads
+use Rattle.scheme.proofs.verdict.Reads as verdict-reads
 
 forward-requires : tie.Need-forward-requires
 forward-requires c κs = search needs
@@ -34,15 +39,12 @@ key-noise-requires c κs = search needs
 is-within-requires : tie.Need-is-within-requires
 is-within-requires c κs = search needs
 
-reciprocals-requires : tie.Need-reciprocals-requires
-reciprocals-requires c κs = search needs
-
 verdict-requires : tie.Need-verdict-requires
 verdict-requires c κs = search needs
 
 returns : tie.Need-returns
 returns c =
-    let tested = c .before .before in
+    let tested = c .before in
     let spectra = tested .before .before .before in
     let start = spectra .before .before .before .before .before in
     let args = start .args in
@@ -54,13 +56,11 @@ returns c =
     let s = spectra .forward3 .ensures in
     let invertible = ap not (tested .before .before .has-zero .ensures ∙ ap hasZero b) ∙ zero-decides (args .b) hb in
     let noise = tested .before .key-noise .ensures
-    ∙ ap₂ (λ (x y : List ℕ). keyNoise (coefficientsOf x) (args .b) (coefficientsOf y)) a s ∙ noise-through (args .a) (args .b) (args .s) ha hs in (
-      c .verdict .ensures ∙ ap₂ verdict invertible (tested .is-within .ensures ∙ ap (within? 1) noise),
-      ((a, b, s), c .before .reciprocals .ensures ∙ ap reciprocalsOf b ∙ inverse-spectrum (args .b) hb),
-    )
+    ∙ ap₂ (λ (x y : List ℕ). keyNoise (coefficientsOf x) (args .b) (coefficientsOf y)) a s ∙ noise-through (args .a) (args .b) (args .s) ha hs in
+    (c .verdict .ensures ∙ ap₂ verdict invertible (tested .is-within .ensures ∙ ap (within? 1) noise), (a, b, s))
 
-pub secret-key-spec : {M : Type 1} → statement M
-secret-key-spec =
+pub check-key-spec : {M : Type 1} → statement M
+check-key-spec =
     tie.close
     (tie.spec
     forward-requires
@@ -69,6 +69,5 @@ secret-key-spec =
     has-zero-requires
     key-noise-requires
     is-within-requires
-    reciprocals-requires
     verdict-requires
     returns)
