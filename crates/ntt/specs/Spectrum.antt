@@ -4,24 +4,13 @@ use Prim.Native.Nat.{ℕ, _+_, _*_}
 use lib.ListN.{getD}
 use Rattle.lists.specs.Table.{table}
 use Rattle.algebra.specs.Halving.{reversed}
-use Rattle.algebra.specs.Numbers.{mulMod, powMod, valueMod}
+use Rattle.algebra.specs.Numbers.{mulMod, valueMod}
 use Rattle.algebra.specs.Negacyclic.{fromSpectrum}
-pub use Rattle.modq.specs.Modulus.{q}
-
-abbrev pub degree : ℕ
-degree = 1024
-
--- the least number whose 1024th power is - 1 modulo q
-abbrev pub ψ : ℕ
-ψ = 3
+pub use Rattle.twiddles.specs.Powers.{q, degree, ψ, power}
 
 -- 1 / 1024 modulo q
 abbrev pub inverseDegree : ℕ
 inverseDegree = 59335
-
--- ψ^k modulo q
-abbrev pub power : ℕ → ℕ
-power k = powMod q ψ k
 
 -- entry k is the value of the polynomial at ψ^(2 j + 1), where j is k with its ten bits in reverse order
 unfoldable pub spectrumOf : List ℕ → List ℕ

@@ -13,7 +13,7 @@ use Rattle.modq.specs.Montgomery.{montgomeryForm}
 use Rattle.modq.proofs.Prime.{q-positive}
 use Rattle.ntt.specs.Spectrum.{q}
 use Rattle.ntt.specs.Factors.{backwardFactor}
-use Rattle.ntt.proofs.Factors.{backward-at, length-backwardFactors, by-power}
+use Rattle.twiddles.proofs.Factors.{backward-at, length-backwardFactors, by-power}
 use Rattle.ntt.proofs.Layers.{lows, highs, unzippedLayer-is, halves-size}
 use borrow.Author.Needs.{needs}
 use Rattle.ntt.proofs.backward_layer.Statement.{statement}

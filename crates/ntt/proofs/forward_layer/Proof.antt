@@ -11,7 +11,7 @@ use Rattle.modq.proofs.Prime.{q-positive}
 use Rattle.ntt.specs.Spectrum.{q}
 use Rattle.ntt.specs.Factors.{forwardFactor}
 use Rattle.ntt.specs.Layers.{forwardLayer}
-use Rattle.ntt.proofs.Factors.{forward-at, length-forwardFactors, by-power}
+use Rattle.twiddles.proofs.Factors.{forward-at, length-forwardFactors, by-power}
 use Rattle.ntt.proofs.Layers.{length-forward, forward-even, forward-odd}
 use borrow.Author.Needs.{needs}
 use Rattle.ntt.proofs.forward_layer.Statement.{statement}
