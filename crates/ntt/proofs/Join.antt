@@ -12,8 +12,10 @@ use Rattle.lists.proofs.Tables.{table-same, table-append, table-getD, take-tabl
 use Rattle.lists.proofs.Tables.{drop-table, zipWith-halves}
 use Rattle.algebra.specs.Numbers.{addMod, subMod, mulMod, powMod, forwardMod, backwardMod}
 use Rattle.algebra.proofs.Halving.{double}
-use Rattle.ntt.specs.Layers.{forwardLayer, backwardLayer, layers}
-use Rattle.ntt.proofs.Layers.{length-forward, forward-even, forward-odd, length-backward, backward-low, backward-high, layers-zero, layers-suc}
+use Rattle.butterflies.specs.Layers.{forwardLayer, backwardLayer}
+use Rattle.butterflies.proofs.Layers.{length-forward, forward-even, forward-odd, length-backward, backward-low, backward-high}
+use Rattle.ntt.specs.Layers.{layers}
+use Rattle.ntt.proofs.Layers.{layers-zero, layers-suc}
 
 -- ---- the blocks
 

@@ -20,7 +20,8 @@ use Rattle.algebra.proofs.Negacyclic as N
 use Rattle.modq.proofs.Prime.{q-positive, negacyclic-root}
 use Rattle.ntt.specs.Spectrum.{q, degree, ψ, inverseDegree, power, spectrumOf, coefficientsOf, pointwise}
 use Rattle.ntt.specs.Factors.{forwardFactor, backwardFactor, backwardLayers}
-use Rattle.ntt.specs.Layers.{forwardLayer, layers}
+use Rattle.butterflies.specs.Layers.{forwardLayer}
+use Rattle.ntt.specs.Layers.{layers}
 use Rattle.ntt.proofs.Join.{forward-join, backward-join}
 use Rattle.ntt.proofs.Scaling.{backward-multiple}
 use Rattle.ntt.proofs.Factors.{forward-factors-are, backward-factors-are}

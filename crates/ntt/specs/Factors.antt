@@ -2,7 +2,8 @@
 use mathlib.Core.List.{List}
 use Prim.Native.Nat.{ℕ, _-_}
 use Rattle.ntt.specs.Spectrum.{q}
-use Rattle.ntt.specs.Layers.{backwardLayer, layers}
+use Rattle.butterflies.specs.Layers.{backwardLayer}
+use Rattle.ntt.specs.Layers.{layers}
 pub use Rattle.twiddles.specs.Factors.{forwardFactor, backwardFactor}
 unfoldable pub use Rattle.twiddles.specs.Factors.{forwardFactors, backwardFactors}
 

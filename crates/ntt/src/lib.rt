@@ -1,17 +1,15 @@
 // The number theoretic transform of polynomials modulo X^1024 + 1 and q = 59393, on arrays of any u16 words.
-ghost use mathlib.Core.Path.{_≡_};
-ghost use Prim.Native.Nat.{_<_};
-ghost use lib.ListN.{length};
-ghost use Rattle.algebra.specs.Numbers.{mulMod, Below, reduced, scale};
-ghost use Rattle.ntt.specs.Spectrum.{q, degree, inverseDegree, spectrumOf, coefficientsOf, pointwise};
-ghost use Rattle.ntt.specs.Factors.{forwardFactor, backwardFactor, forwardFactors, backwardFactors, backwardLayers};
-ghost use Rattle.ntt.specs.Layers.{forwardLayer, pairs, halves, unzippedLayer};
+// The degree and the tables that the transforms are lent are those of crate twiddles.
 pub use twiddles::DEGREE;
 pub use twiddles::FACTORS;
 use twiddles::HALF;
 use twiddles::LAYERS;
 pub use twiddles::backward_factors;
 pub use twiddles::forward_factors;
+ghost use mathlib.Core.Path.{_≡_};
+ghost use Rattle.algebra.specs.Numbers.{mulMod, Below, reduced, scale};
+ghost use Rattle.ntt.specs.Spectrum.{q, degree, inverseDegree, spectrumOf, coefficientsOf, pointwise};
+ghost use Rattle.ntt.specs.Factors.{forwardFactors, backwardFactors, backwardLayers};
 
 // An element of the ring by its coefficients, and by its values at the roots of X^1024 + 1. A word stands for its residue modulo q.
 pub type Element = [u16; DEGREE];
@@ -31,21 +29,6 @@ fn reduced(a: Element) -> Element
     r
 }
 
-fn forward_layer(r: &mut [u16], a: &[u16], w: &[u16], k: usize)
-    requires { ⌜ (length (now r) ≡ degree) × (length (now a) ≡ degree) × Below q (now a) × (k < 10) ⌝ }
-    requires { ⌜ now w ≡ forwardFactors ⌝ }
-    ensures { λ _. ⌜ now (r .exit) ≡ forwardLayer q 512 (forwardFactor k) (now (a .entry)) ⌝ }
-{
-    for j in 0..HALF {
-        let x = a[j];
-        let product = modq::montgomery_product(w[HALF * k + j], a[HALF + j]);
-        let sum = modq::add_reduced(x, product);
-        let difference = modq::sub_reduced(x, product);
-        r[2 * j] = sum;
-        r[2 * j + 1] = difference;
-    }
-}
-
 // The value of a at each root of X^1024 + 1. Two layers a turn, to and fro between two arrays.
 pub fn forward(a: Element, w: &[u16]) -> Spectrum
     requires { ⌜ now w ≡ forwardFactors ⌝ }
@@ -54,8 +37,8 @@ pub fn forward(a: Element, w: &[u16]) -> Spectrum
     let mut s = reduced(a);
     let mut t = [0u16; DEGREE];
     for k in 0..5 {
-        forward_layer(&mut t, &s, w, 2 * k);
-        forward_layer(&mut s, &t, w, 2 * k + 1);
+        butterflies::forward_layer(&mut t, &s, w, 2 * k);
+        butterflies::forward_layer(&mut s, &t, w, 2 * k + 1);
     }
     s
 }
@@ -69,43 +52,6 @@ fn divided(a: Spectrum) -> Spectrum
     twiddles::scaled(64, a)
 }
 
-// The entries 2 j and 2 j + 1 in one number. The compiler makes one copy of memory of it, and takes halves of 32 bits apart faster than
-// it reads every other word.
-fn pairs(v: &mut [u32], a: &[u16])
-    requires { ⌜ (length (now v) ≡ 512) × (length (now a) ≡ degree) ⌝ }
-    ensures { λ _. ⌜ now (v .exit) ≡ pairs 512 (now (a .entry)) ⌝ }
-{
-    for j in 0..HALF {
-        v[j] = a[2 * j] as u32 + 65536 * a[2 * j + 1] as u32;
-    }
-}
-
-// The low halves, then the high halves.
-fn halves(p: &mut [u16], v: &[u32])
-    requires { ⌜ (length (now p) ≡ degree) × (length (now v) ≡ 512) ⌝ }
-    ensures { λ _. ⌜ now (p .exit) ≡ halves 512 (now (v .entry)) ⌝ }
-{
-    for j in 0..HALF {
-        p[j] = (v[j] % 65536) as u16;
-        p[HALF + j] = (v[j] / 65536) as u16;
-    }
-}
-
-// A layer back, from the entries at even places, then those at odd places.
-fn backward_layer(r: &mut [u16], p: &[u16], w: &[u16], k: usize)
-    requires { ⌜ (length (now r) ≡ degree) × (length (now p) ≡ degree) × Below q (now p) × (k < 10) ⌝ }
-    requires { ⌜ now w ≡ backwardFactors ⌝ }
-    ensures { λ _. ⌜ now (r .exit) ≡ unzippedLayer q 512 (backwardFactor k) (now (p .entry)) ⌝ }
-{
-    for j in 0..HALF {
-        let x = p[j];
-        let y = p[HALF + j];
-        let difference = modq::sub_reduced(y, x);
-        r[j] = modq::add_reduced(x, y);
-        r[HALF + j] = modq::montgomery_product(w[HALF * k + j], difference);
-    }
-}
-
 // Ten layers back: the first from a, each other from the one before.
 fn backward_layers(a: Spectrum, w: &[u16]) -> Element
     requires { ⌜ Below q a ⌝ }
@@ -115,13 +61,13 @@ fn backward_layers(a: Spectrum, w: &[u16]) -> Element
     let mut s = [0u16; DEGREE];
     let mut v = [0u32; HALF];
     let mut p = [0u16; DEGREE];
-    pairs(&mut v, &a);
-    halves(&mut p, &v);
-    backward_layer(&mut s, &p, w, 9);
+    butterflies::pairs(&mut v, &a);
+    butterflies::halves(&mut p, &v);
+    butterflies::backward_layer(&mut s, &p, w, 9);
     for k in 1..LAYERS {
-        pairs(&mut v, &s);
-        halves(&mut p, &v);
-        backward_layer(&mut s, &p, w, 9 - k);
+        butterflies::pairs(&mut v, &s);
+        butterflies::halves(&mut p, &v);
+        butterflies::backward_layer(&mut s, &p, w, 9 - k);
     }
     s
 }

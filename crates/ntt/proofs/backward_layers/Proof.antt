@@ -7,8 +7,10 @@ use Rattle.algebra.specs.Numbers.{Below}
 use Rattle.modq.proofs.Prime.{q-positive}
 use Rattle.ntt.specs.Spectrum.{q}
 use Rattle.ntt.specs.Factors.{backwardFactor, backwardLayers}
-use Rattle.ntt.specs.Layers.{backwardLayer, unzipped, pairs, halves, layers}
-use Rattle.ntt.proofs.Layers.{length-pairs, length-unzipped, length-backward, below-backward, below-unzipped, halves-of-pairs, backward-of-unzipped, layers-zero, layers-suc, layers-more}
+use Rattle.butterflies.specs.Layers.{backwardLayer, unzipped, pairs, halves}
+use Rattle.butterflies.proofs.Layers.{length-pairs, length-unzipped, length-backward, below-backward, below-unzipped, halves-of-pairs, backward-of-unzipped}
+use Rattle.ntt.specs.Layers.{layers}
+use Rattle.ntt.proofs.Layers.{layers-zero, layers-suc, layers-more}
 use borrow.Author.Needs.{needs}
 use Rattle.ntt.proofs.backward_layers.Statement.{statement}
 use Rattle.ntt.proofs.backward_layers.Tie as tie

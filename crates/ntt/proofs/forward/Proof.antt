@@ -8,8 +8,10 @@ use Rattle.algebra.proofs.Elements as El
 use Rattle.modq.proofs.Prime.{q-positive}
 use Rattle.ntt.specs.Spectrum.{q, degree}
 use Rattle.ntt.specs.Factors.{forwardFactor}
-use Rattle.ntt.specs.Layers.{forwardLayer, layers}
-use Rattle.ntt.proofs.Layers.{length-forward, below-forward, layers-zero, layers-more}
+use Rattle.butterflies.specs.Layers.{forwardLayer}
+use Rattle.butterflies.proofs.Layers.{length-forward, below-forward}
+use Rattle.ntt.specs.Layers.{layers}
+use Rattle.ntt.proofs.Layers.{layers-zero, layers-more}
 use Rattle.ntt.proofs.Spectrum.{forward-layers-are}
 use borrow.Author.Needs.{needs}
 use Rattle.ntt.proofs.forward.Statement.{statement}

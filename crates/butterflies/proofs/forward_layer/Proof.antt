@@ -8,14 +8,14 @@ use Rattle.algebra.specs.Numbers.{addMod, subMod, mulMod}
 use Rattle.algebra.proofs.Numbers.{below-at}
 use Rattle.modq.specs.Montgomery.{montgomeryForm}
 use Rattle.modq.proofs.Prime.{q-positive}
-use Rattle.ntt.specs.Spectrum.{q}
-use Rattle.ntt.specs.Factors.{forwardFactor}
-use Rattle.ntt.specs.Layers.{forwardLayer}
+use Rattle.twiddles.specs.Powers.{q}
+use Rattle.twiddles.specs.Factors.{forwardFactor}
+use Rattle.butterflies.specs.Layers.{forwardLayer}
 use Rattle.twiddles.proofs.Factors.{forward-at, length-forwardFactors, by-power}
-use Rattle.ntt.proofs.Layers.{length-forward, forward-even, forward-odd}
+use Rattle.butterflies.proofs.Layers.{length-forward, forward-even, forward-odd}
 use borrow.Author.Needs.{needs}
-use Rattle.ntt.proofs.forward_layer.Statement.{statement}
-use Rattle.ntt.proofs.forward_layer.Tie as tie
+use Rattle.butterflies.proofs.forward_layer.Statement.{statement}
+use Rattle.butterflies.proofs.forward_layer.Tie as tie
 
 abbrev Inv-loop : tie.InvT-loop
 Inv-loop r₀ a w k j₀ r j = Filled 1024 (forwardLayer q 512 (forwardFactor k) a) r (2 * j)

@@ -11,13 +11,13 @@ use Rattle.algebra.specs.Numbers.{mulMod}
 use Rattle.algebra.proofs.Numbers.{below-at}
 use Rattle.modq.specs.Montgomery.{montgomeryForm}
 use Rattle.modq.proofs.Prime.{q-positive}
-use Rattle.ntt.specs.Spectrum.{q}
-use Rattle.ntt.specs.Factors.{backwardFactor}
+use Rattle.twiddles.specs.Powers.{q}
+use Rattle.twiddles.specs.Factors.{backwardFactor}
 use Rattle.twiddles.proofs.Factors.{backward-at, length-backwardFactors, by-power}
-use Rattle.ntt.proofs.Layers.{lows, highs, unzippedLayer-is, halves-size}
+use Rattle.butterflies.proofs.Layers.{lows, highs, unzippedLayer-is, halves-size}
 use borrow.Author.Needs.{needs}
-use Rattle.ntt.proofs.backward_layer.Statement.{statement}
-use Rattle.ntt.proofs.backward_layer.Tie as tie
+use Rattle.butterflies.proofs.backward_layer.Statement.{statement}
+use Rattle.butterflies.proofs.backward_layer.Tie as tie
 
 abbrev Inv-loop : tie.InvT-loop
 Inv-loop r₀ p w k j₀ r j = FilledHalves 512 (table 512 (lows q 512 (backwardFactor k) p)) (table 512 (highs q 512 (backwardFactor k) p)) r j

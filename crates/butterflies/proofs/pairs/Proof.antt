@@ -5,10 +5,10 @@ use lib.ListN.{getD}
 use Rattle.lists.specs.Table.{table}
 use Rattle.lists.proofs.Tables.{length-table}
 use Rattle.lists.proofs.Fill.{Filled, filled-none, filled-more-by, filled-all}
-use Rattle.ntt.proofs.Layers.{evens, odds, pairs-is}
+use Rattle.butterflies.proofs.Layers.{evens, odds, pairs-is}
 use borrow.Author.Needs.{needs}
-use Rattle.ntt.proofs.pairs.Statement.{statement}
-use Rattle.ntt.proofs.pairs.Tie as tie
+use Rattle.butterflies.proofs.pairs.Statement.{statement}
+use Rattle.butterflies.proofs.pairs.Tie as tie
 
 abbrev Inv-loop : tie.InvT-loop
 Inv-loop v₀ a j₀ v j = Filled 512 (table 512 (λ j. evens 512 a j + 65536 * odds 512 a j)) v j

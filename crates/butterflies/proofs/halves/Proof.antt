@@ -5,10 +5,10 @@ use lib.ListN.{length-set, length}
 use Rattle.lists.specs.Table.{table}
 use Rattle.lists.proofs.Tables.{length-table, getD-table}
 use Rattle.lists.proofs.Fill.{FilledHalves, filled-halves-none, filled-halves-more, filled-halves-all}
-use Rattle.ntt.proofs.Layers.{lowHalves, highHalves, halves-is, halves-size}
+use Rattle.butterflies.proofs.Layers.{lowHalves, highHalves, halves-is, halves-size}
 use borrow.Author.Needs.{needs}
-use Rattle.ntt.proofs.halves.Statement.{statement}
-use Rattle.ntt.proofs.halves.Tie as tie
+use Rattle.butterflies.proofs.halves.Statement.{statement}
+use Rattle.butterflies.proofs.halves.Tie as tie
 
 abbrev Inv-loop : tie.InvT-loop
 Inv-loop p₀ v j₀ p j = FilledHalves 512 (table 512 (lowHalves 512 v)) (table 512 (highHalves 512 v)) p j
