@@ -1,5 +1,6 @@
 // The calls that make and check keys. Buffers may have any length; under any answer but Done every output is as it came.
 use ntt::Element;
+use ntt::FACTORS;
 use records::Answer;
 use records::PUBLIC_KEY_LENGTH;
 use records::Refusal;
@@ -24,10 +25,12 @@ pub fn check_secret_key(key: &[u8]) -> Answer
     if key.len() != SECRET_KEY_LENGTH {
         return Answer::Refused(Refusal::WrongLength);
     }
-    let forward = ntt::forward_factors();
-    let backward = ntt::backward_factors();
-    let checked = keys::check_secret_key(key, &forward, &backward);
-    checked.answer
+    let mut forward = [0u16; FACTORS];
+    let mut backward = [0u16; FACTORS];
+    ntt::forward_factors(&mut forward);
+    ntt::backward_factors(&mut backward);
+    let read = keys::read_secret_key(key, &forward, &backward);
+    read.answer
 }
 
 // ---- keygen

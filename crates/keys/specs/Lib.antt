@@ -1,3 +1,2 @@
 -- Keys read off bytes.
 pub mod Keys
-pub mod Prepared

@@ -2,6 +2,7 @@
 // The calls test every length first, so the functions here are lent buffers of the record's length.
 use ntt::DEGREE;
 use ntt::Element;
+use ntt::FACTORS;
 use ntt::Spectrum;
 use records::Answer;
 use records::PUBLIC_KEY_MARK;
@@ -21,8 +22,7 @@ ghost use Rattle.sampling.specs.Stream.{uniformElement};
 ghost use Rattle.scheme.specs.Answers as Struct;
 ghost use Rattle.records.specs.Layout.{publicKeyLength, secretKeyLength};
 ghost use Rattle.records.specs.Records.{firstOf, secondOf, secretOf};
-ghost use Rattle.keys.specs.Keys.{publicAnswer, verdictAnswer, secretAnswer, elementsOf, generatedAnswer, keygenB, tripleNoiseLength, noiseTriple};
-ghost use Rattle.keys.specs.Prepared.{Prepared};
+ghost use Rattle.keys.specs.Keys.{publicAnswer, verdictAnswer, secretAnswer, generatedAnswer, keygenB, tripleNoiseLength, noiseTriple};
 
 // ---- public keys
 
@@ -66,8 +66,8 @@ fn verdict_answer(check: KeyCheck) -> Answer
     }
 }
 
-// What the checks of a secret key answer, and the spectra of a, b and s: all that the key check needs.
-pub struct SecretRecord {
+// What the checks of a secret key answer, and the spectra of a, b and s.
+pub struct SecretKey {
     pub answer: Answer,
     pub a: Spectrum,
     pub b: Spectrum,
@@ -75,7 +75,7 @@ pub struct SecretRecord {
 }
 
 // Of a record with the mark "SDK".
-pub fn check_secret_key(bytes: &[u8], forward: &[u16], backward: &[u16]) -> SecretRecord
+pub fn read_secret_key(bytes: &[u8], forward: &[u16], backward: &[u16]) -> SecretKey
     requires { ⌜ length (now bytes) ≡ secretKeyLength ⌝ }
     requires { ⌜ (now forward ≡ forwardFactors) × (now backward ≡ backwardFactors) ⌝ }
     ensures { λ k. ⌜ k .answer ≡ secretAnswer (now (bytes .entry)) ⌝ }
@@ -94,34 +94,11 @@ pub fn check_secret_key(bytes: &[u8], forward: &[u16], backward: &[u16]) -> Secr
     let a = checked.a;
     let b = checked.b;
     let s = checked.s;
-    SecretRecord {
+    SecretKey {
         answer: records::and_then(record, records::and_then(codes, verdict)),
         a,
         b,
         s,
-    }
-}
-
-// What the checks of a secret key answer, and the key prepared for openings.
-pub struct SecretKey {
-    pub answer: Answer,
-    pub key: scheme::PreparedKey,
-}
-
-pub fn read_secret_key(bytes: &[u8], forward: &[u16], backward: &[u16]) -> SecretKey
-    requires { ⌜ length (now bytes) ≡ secretKeyLength ⌝ }
-    requires { ⌜ (now forward ≡ forwardFactors) × (now backward ≡ backwardFactors) ⌝ }
-    ensures { λ k. ⌜ k .answer ≡ secretAnswer (now (bytes .entry)) ⌝ }
-    ensures { λ k. ⌜ Prepared (elementsOf (now (bytes .entry))) (k .key) ⌝ }
-{
-    let checked = check_secret_key(bytes, forward, backward);
-    let answer = checked.answer;
-    let a = checked.a;
-    let b = checked.b;
-    let s = checked.s;
-    SecretKey {
-        answer,
-        key: scheme::prepare(a, b, s),
     }
 }
 
@@ -140,8 +117,10 @@ pub fn generate(stream: &[u8], s: &[u8], e: &[u8]) -> NewKey
     ensures { λ k. ⌜ (k .a ≡ uniformElement (now (stream .entry))) × (k .b ≡ keygenB (now (stream .entry)) (now (s .entry)) (now (e .entry))) ⌝ }
     ensures { λ k. ⌜ k .s ≡ ternaryNoise (now (s .entry)) ⌝ }
 {
-    let forward = ntt::forward_factors();
-    let backward = ntt::backward_factors();
+    let mut forward = [0u16; FACTORS];
+    let mut backward = [0u16; FACTORS];
+    ntt::forward_factors(&mut forward);
+    ntt::backward_factors(&mut backward);
     let u = sampling::uniform(stream);
     let enough = records::unless(u.count == DEGREE, Refusal::StreamExhausted);
     let a = u.value;

@@ -1,10 +1,10 @@
 -- The factors of crate twiddles are those of the transform.
-use mathlib.Core.Path.{_≡_, ap, _∙_}
+use mathlib.Core.Path.{_≡_, sym, ap, _∙_}
 use mathlib.Core.List.{List}
 use Prim.Native.Nat.{ℕ, zero, suc, _+_, _*_, _/_, _%_, _^_, _<_, _≤_}
 use native.Mathlib.Nat.{mod-lt, two-pow-succ, pow-le-pow-right}
 use native.Mathlib.Omega.{arith}
-use lib.ListN.{getD}
+use lib.ListN.{length, getD}
 use lib.Pow.{pow-pos}
 use Rattle.lists.proofs.Tables.{table-same}
 use Rattle.algebra.specs.Halving.{reversed}
@@ -12,10 +12,18 @@ use Rattle.algebra.specs.Numbers.{scale}
 use Rattle.modq.specs.Montgomery.{montgomeryForm, fromMontgomery}
 use Rattle.modq.proofs.Montgomery.{product-of-form}
 use Rattle.twiddles.proofs.Reversal.{reversed-one, reversed-step}
+use Rattle.twiddles.proofs.Factors.{length-forwardFactors, length-backwardFactors}
 pub use Rattle.twiddles.proofs.Factors.{shifted}
 use Rattle.ntt.specs.Spectrum.{q, degree, ψ, power}
-use Rattle.ntt.specs.Factors.{forwardFactor, backwardFactor}
+use Rattle.ntt.specs.Factors.{forwardFactor, backwardFactor, forwardFactors, backwardFactors}
 use Rattle.ntt.proofs.Join.{blockExponent, ForwardFactors, BackwardFactors}
+
+-- the size of a table that was made
+pub forward-size : {w : List ℕ} → w ≡ forwardFactors → 5120 ≡ length w
+forward-size e = sym (ap length e ∙ length-forwardFactors)
+
+pub backward-size : {w : List ℕ} → w ≡ backwardFactors → 5120 ≡ length w
+backward-size e = sym (ap length e ∙ length-backwardFactors)
 
 -- a multiple, by the form of its number
 pub scale-of-form : (c : ℕ) (a : List ℕ) → scale q degree (fromMontgomery (montgomeryForm c)) a ≡ scale q degree c a

@@ -1,4 +1,4 @@
--- A key as it was prepared, and what an outcome makes of answer and output.
+-- A key that was read, and what an outcome makes of answer and output.
 use mathlib.Core.Path.{_≡_, refl, ap, ap₂, _∙_}
 use mathlib.Core.Bool.{Bool, true, false, cond}
 use mathlib.Core.List.{List}
@@ -8,12 +8,12 @@ use Rattle.lists.specs.Table.{zeros}
 use Rattle.ntt.specs.Spectrum.{spectrumOf, coefficientsOf}
 use Rattle.ring.specs.Ring.{n}
 use Rattle.ring.specs.Invertible.{inverseOf}
+use Rattle.ring.specs.Reciprocals.{reciprocalsOf}
 use Rattle.ring.proofs.RingLaws.{length-inverse}
+use Rattle.ring.proofs.Transforms.{inverse-spectrum}
 use Rattle.scheme.specs.Scheme.{Triple, Outcome, found, failed, decapsulation}
-use Rattle.scheme.specs.Answers.{answer, opened}
+use Rattle.scheme.specs.Answers.{answer}
 use Rattle.scheme.specs.declared.Triple as Declared
-use Rattle.scheme.specs.declared.Encapsulation.{Encapsulation}
-use Rattle.scheme.specs.declared.PreparedKey.{PreparedKey}
 use Rattle.scheme.proofs.Steps.{decapsulation-through}
 use Rattle.encoding.proofs.Words.{length-elementOf}
 use Rattle.encoding.proofs.Codes.{length-ternaryOf}
@@ -22,14 +22,15 @@ use Rattle.derivation.specs.Derivation.{genuine?, entryOf, verifiedEntry}
 use Rattle.records.specs.declared.Refusal.{Refusal}
 use Rattle.records.specs.declared.Refusal.the-variants.{DecapsulationFailure, TagMismatch}
 use Rattle.records.specs.declared.Answer.{Answer}
+use Rattle.records.specs.declared.Elements.{Elements}
 use Rattle.records.specs.declared.Answer.the-variants.{Done, Refused}
 use Rattle.records.specs.Answers.{unless, andThen, onDone}
 use Rattle.calls.specs.Calls.{outcome, outcomeAnswer, outcomeBytes, openedAnswer, openedEntry}
 use Rattle.keys.specs.Keys.{KeyElements, elementsOf}
-use Rattle.keys.specs.Prepared.{Prepared}
-use Rattle.opening.specs.Parts.{asTriple, answered, decapsulatedBy, openedBy, verifiedBy}
+use Rattle.keys.specs.declared.SecretKey.{SecretKey}
+use Rattle.opening.specs.Parts.{asTriple, answered, outcomeBy, decapsulatedBy, openedBy, verifiedBy}
 
--- ---- decapsulation with a prepared key
+-- ---- decapsulation with a key that was read
 
 -- a, b and s have 1,024 coefficients, as what is read off bytes has
 pub record Sized (key : KeyElements) : Type 0 where
@@ -40,16 +41,17 @@ pub record Sized (key : KeyElements) : Type 0 where
 pub read-sized : (k : List ℕ) → Sized (elementsOf k)
 read-sized k = record { a-size = length-elementOf _; b-size = length-elementOf _; s-size = length-ternaryOf _ }
 
-pub prepared-outcome : (key : KeyElements) (k : PreparedKey) (t : Declared.Triple) (c : Encapsulation) {dummy : Triple} {c1 c2 : List ℕ} → Sized key → Prepared key k
-    → asTriple t ≡ dummy → c .c1 ≡ c1 → c .c2 ≡ c2 → opened k t c ≡ outcome key dummy c1 c2
+-- by the spectra of a, b, s and the reciprocals of that of b
+pub outcome-by : (k : SecretKey) (inverse : List ℕ) (t : Declared.Triple) (read : Elements) {key : KeyElements} {dummy : Triple} {c1 c2 : List ℕ} → Sized key
+    → k .a ≡ spectrumOf (key .a) → k .b ≡ spectrumOf (key .b) → k .s ≡ spectrumOf (key .s) → inverse ≡ reciprocalsOf (k .b)
+    → asTriple t ≡ dummy → read .first ≡ c1 → read .second ≡ c2 → outcomeBy k inverse t read ≡ outcome key dummy c1 c2
 unfolding outcome
-prepared-outcome key k t c {dummy} {c1} {c2} size p et e1 e2 =
-    ap₂ (λ (x y : List ℕ). decapsulation (coefficientsOf x) (coefficientsOf y) (coefficientsOf (k .inverse)) (coefficientsOf (k .s)) (asTriple t) (c .c1) (c .c2))
-    (p .a-spectrum) (p .b-spectrum)
-    ∙ ap₂ (λ (x y : List ℕ). decapsulation (coefficientsOf (spectrumOf a)) (coefficientsOf (spectrumOf b)) (coefficientsOf x) (coefficientsOf y) (asTriple t) (c .c1) (c .c2))
-    (p .inverse-spectrum) (p .s-spectrum)
-    ∙ decapsulation-through a b (inverseOf b) s (size .a-size) (size .b-size) (length-inverse b) (size .s-size) (asTriple t) (c .c1) (c .c2)
-    ∙ ap (λ (x : Triple). decapsulation a b (inverseOf b) s x (c .c1) (c .c2)) et
+outcome-by k inverse t read {key} {dummy} {c1} {c2} size ea eb es ei et e1 e2 =
+    ap₂ (λ (x y : List ℕ). decapsulation (coefficientsOf x) (coefficientsOf y) (coefficientsOf inverse) (coefficientsOf (k .s)) (asTriple t) (read .first) (read .second)) ea eb
+    ∙ ap₂ (λ (x y : List ℕ). decapsulation (coefficientsOf (spectrumOf a)) (coefficientsOf (spectrumOf b)) (coefficientsOf x) (coefficientsOf y) (asTriple t) (read .first) (read .second))
+    (ei ∙ ap reciprocalsOf eb ∙ inverse-spectrum b (size .b-size)) es
+    ∙ decapsulation-through a b (inverseOf b) s (size .a-size) (size .b-size) (length-inverse b) (size .s-size) (asTriple t) (read .first) (read .second)
+    ∙ ap (λ (x : Triple). decapsulation a b (inverseOf b) s x (read .first) (read .second)) et
     ∙ ap₂ (decapsulation a b (inverseOf b) s dummy) e1 e2
   where
     a : List ℕ

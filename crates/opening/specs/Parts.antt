@@ -3,7 +3,8 @@ use mathlib.Core.List.{List}
 use Prim.Native.Nat.{ℕ}
 use Rattle.lists.specs.Table.{zeros}
 use Rattle.ring.specs.Ring.{n}
-use Rattle.scheme.specs.Scheme.{Triple, Outcome, found, failed}
+use Rattle.ntt.specs.Spectrum.{coefficientsOf}
+use Rattle.scheme.specs.Scheme.{Triple, Outcome, found, failed, decapsulation}
 use Rattle.scheme.specs.Answers as Struct
 use Rattle.scheme.specs.declared.Triple as Declared
 use Rattle.derivation.specs.Derivation.{verifiedEntry}
@@ -27,9 +28,11 @@ answered failed = record { r = zeros n; e1 = zeros n; e2 = zeros n }
 
 -- ---- by a key that was read, of a front that was read
 
--- what is found
-abbrev pub outcomeBy : (key : SecretKey) (dummy : Declared.Triple) (read : Elements) → Outcome
-outcomeBy key dummy read = Struct.opened (key .key) dummy (record { c1 = read .first; c2 = read .second })
+-- what is found; key and inverse are given by their spectra
+abbrev pub outcomeBy : (key : SecretKey) (inverse : List ℕ) (dummy : Declared.Triple) (read : Elements) → Outcome
+outcomeBy key inverse dummy read =
+    decapsulation (coefficientsOf (key .a)) (coefficientsOf (key .b)) (coefficientsOf inverse)
+    (coefficientsOf (key .s)) (asTriple dummy) (read .first) (read .second)
 
 -- 9 behind the answers to key, encapsulation and dummy
 abbrev pub decapsulatedBy : (key encapsulation dummy : Answer) (o : Outcome) → Answer

@@ -1,6 +1,8 @@
 // The calls of a desk that open, which is lent a secret key. Buffers may have any length; under any answer but Done every output is as it came.
 use keys::SecretKey;
 use keys::TRIPLE_NOISE_LENGTH;
+use ntt::FACTORS;
+use ntt::Spectrum;
 use records::Answer;
 use records::BLOCK_LENGTH;
 use records::ENCAPSULATION_LENGTH;
@@ -33,9 +35,10 @@ struct Decapsulated {
     triple: Triple,
 }
 
-// By a key, an encapsulation and a dummy that were read; `codes` is what the dummy's codes are answered by.
+// By a key that was read, the spectrum of the inverse of its b, an encapsulation and a dummy; `codes` is what the dummy's codes are answered by.
 fn find_triple(
     key: SecretKey,
+    inverse: Spectrum,
     c: Elements,
     codes: Answer,
     dummy: Triple,
@@ -43,15 +46,26 @@ fn find_triple(
     backward: &[u16],
 ) -> Decapsulated
     requires { ⌜ (now forward ≡ forwardFactors) × (now backward ≡ backwardFactors) ⌝ }
-    ensures { λ d. ⌜ d .answer ≡ decapsulatedBy (key .answer) (frontOf c) codes (outcomeBy key dummy c) ⌝ }
-    ensures { λ d. ⌜ asTriple (d .triple) ≡ answered (outcomeBy key dummy c) ⌝ }
+    ensures { λ d. ⌜ d .answer ≡ decapsulatedBy (key .answer) (frontOf c) codes (outcomeBy key inverse dummy c) ⌝ }
+    ensures { λ d. ⌜ asTriple (d .triple) ≡ answered (outcomeBy key inverse dummy c) ⌝ }
 {
     let checked = key.answer;
-    let prepared = key.key;
+    let a = key.a;
+    let b = key.b;
+    let s = key.s;
     let words = records::front_answer(c);
     let c1 = c.first;
     let c2 = c.second;
-    let d = scheme::decapsulate(prepared, dummy, Encapsulation { c1, c2 }, forward, backward);
+    let d = scheme::decapsulate(
+        a,
+        b,
+        s,
+        inverse,
+        dummy,
+        Encapsulation { c1, c2 },
+        forward,
+        backward,
+    );
     let triple = d.triple;
     let found = records::unless(d.found, Refusal::DecapsulationFailure);
     let opening = records::and_then(words, records::and_then(codes, found));
@@ -67,13 +81,17 @@ fn decapsulate_records(key: &[u8], encapsulation: &[u8], dummy: &[u8]) -> Decaps
     ensures { λ d. ⌜ d .answer ≡ decapsulatedAnswer (now (key .entry)) (now (encapsulation .entry)) (now (dummy .entry)) ⌝ }
     ensures { λ d. ⌜ asTriple (d .triple) ≡ answered (decapsulatedOutcome (now (key .entry)) (now (encapsulation .entry)) (now (dummy .entry))) ⌝ }
 {
-    let forward = ntt::forward_factors();
-    let backward = ntt::backward_factors();
+    let mut forward = [0u16; FACTORS];
+    let mut backward = [0u16; FACTORS];
+    ntt::forward_factors(&mut forward);
+    ntt::backward_factors(&mut backward);
     let k = keys::read_secret_key(key, &forward, &backward);
+    let b = k.b;
+    let inverse = ring::reciprocals(b);
     let c = records::read_encapsulation(encapsulation);
     let codes = records::check_triple(dummy);
     let t = records::read_triple(dummy);
-    find_triple(k, c, codes, t, &forward, &backward)
+    find_triple(k, inverse, c, codes, t, &forward, &backward)
 }
 
 fn write_triple(answer: Answer, t: Triple, out: &mut [u8])
@@ -115,27 +133,39 @@ struct Opened {
     entry: [u8; BLOCK_LENGTH],
 }
 
-// By a key, a sealed entry and a dummy that were read.
+// By a key that was read, the spectrum of the inverse of its b, a sealed entry and a dummy.
 fn recover_entry(
     key: SecretKey,
+    inverse: Spectrum,
     sealed: SealedEntry,
     dummy: Triple,
     forward: &[u16],
     backward: &[u16],
 ) -> Opened
     requires { ⌜ (now forward ≡ forwardFactors) × (now backward ≡ backwardFactors) ⌝ }
-    ensures { λ o. ⌜ o .answer ≡ openedBy (key .answer) (frontOf (sealed .front)) (outcomeBy key dummy (sealed .front)) (sealed .body) (sealed .tag) ⌝ }
-    ensures { λ o. ⌜ o .entry ≡ verifiedBy (outcomeBy key dummy (sealed .front)) (sealed .body) (sealed .tag) ⌝ }
+    ensures { λ o. ⌜ o .answer ≡ openedBy (key .answer) (frontOf (sealed .front)) (outcomeBy key inverse dummy (sealed .front)) (sealed .body) (sealed .tag) ⌝ }
+    ensures { λ o. ⌜ o .entry ≡ verifiedBy (outcomeBy key inverse dummy (sealed .front)) (sealed .body) (sealed .tag) ⌝ }
 {
     let checked = key.answer;
-    let prepared = key.key;
+    let a = key.a;
+    let b = key.b;
+    let s = key.s;
     let front = sealed.front;
     let record = records::front_answer(front);
     let c1 = front.first;
     let c2 = front.second;
     let body = sealed.body;
     let tag = sealed.tag;
-    let d = scheme::decapsulate(prepared, dummy, Encapsulation { c1, c2 }, forward, backward);
+    let d = scheme::decapsulate(
+        a,
+        b,
+        s,
+        inverse,
+        dummy,
+        Encapsulation { c1, c2 },
+        forward,
+        backward,
+    );
     let found = records::unless(d.found, Refusal::DecapsulationFailure);
     let t = d.triple;
     let r = t.r;
@@ -157,12 +187,16 @@ fn open_records(key: &[u8], sealed: &[u8], noise: &[u8]) -> Opened
     ensures { λ o. ⌜ o .answer ≡ entryAnswer (now (key .entry)) (now (sealed .entry)) (now (noise .entry)) ⌝ }
     ensures { λ o. ⌜ o .entry ≡ verifiedBy (openedOutcome (now (key .entry)) (now (sealed .entry)) (now (noise .entry))) (bodyPart (now (sealed .entry))) (tagPart (now (sealed .entry))) ⌝ }
 {
-    let forward = ntt::forward_factors();
-    let backward = ntt::backward_factors();
+    let mut forward = [0u16; FACTORS];
+    let mut backward = [0u16; FACTORS];
+    ntt::forward_factors(&mut forward);
+    ntt::backward_factors(&mut backward);
     let k = keys::read_secret_key(key, &forward, &backward);
+    let b = k.b;
+    let inverse = ring::reciprocals(b);
     let e = records::read_sealed_entry(sealed);
     let dummy = keys::noise_triple(noise);
-    recover_entry(k, e, dummy, &forward, &backward)
+    recover_entry(k, inverse, e, dummy, &forward, &backward)
 }
 
 fn write_entry(answer: Answer, entry: [u8; BLOCK_LENGTH], out: &mut [u8])

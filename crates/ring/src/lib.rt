@@ -4,6 +4,7 @@ use modq::Q;
 use modq::Q_I32;
 use ntt::DEGREE;
 use ntt::Element;
+use ntt::FACTORS;
 use ntt::Spectrum;
 ghost use mathlib.Core.Path.{_≡_};
 ghost use Prim.Native.Nat.{_≤_};
@@ -251,8 +252,10 @@ pub fn product_with(a: Element, b: Element, forward: &[u16], backward: &[u16]) -
 pub fn product(a: Element, b: Element) -> Element
     ensures { λ r. ⌜ r ≡ product a b ⌝ }
 {
-    let w = ntt::forward_factors();
-    let v = ntt::backward_factors();
+    let mut w = [0u16; FACTORS];
+    let mut v = [0u16; FACTORS];
+    ntt::forward_factors(&mut w);
+    ntt::backward_factors(&mut v);
     product_with(a, b, &w, &v)
 }
 
@@ -283,7 +286,9 @@ pub fn inverse_with(b: Element, forward: &[u16], backward: &[u16]) -> Inversion
 pub fn inverse(b: Element) -> Inversion
     ensures { λ r. ⌜ (r .exists ≡ decide (invertible? b)) × (r .value ≡ inverseOf b) ⌝ }
 {
-    let w = ntt::forward_factors();
-    let v = ntt::backward_factors();
+    let mut w = [0u16; FACTORS];
+    let mut v = [0u16; FACTORS];
+    ntt::forward_factors(&mut w);
+    ntt::backward_factors(&mut v);
     inverse_with(b, &w, &v)
 }

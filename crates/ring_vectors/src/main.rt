@@ -11,6 +11,7 @@ ghost use Rattle.ring_vectors.specs.Cases.{signed, sameInteger?, raised,
 use encoding::ELEMENT_LENGTH;
 use ntt::DEGREE;
 use ntt::Element;
+use ntt::FACTORS;
 use vectors::Report;
 use vectors::Verdict;
 
@@ -209,8 +210,10 @@ fn judge_cases(kind: Kind, text: &[u8], forward: &[u16], backward: &[u16]) -> Re
 fn judge_file(kind: Kind, text: &[u8]) -> Report
     ensures { λ r. ⌜ r ≡ report (verdict kind) (fieldCount kind) (now (text .entry)) ⌝ }
 {
-    let forward = ntt::forward_factors();
-    let backward = ntt::backward_factors();
+    let mut forward = [0u16; FACTORS];
+    let mut backward = [0u16; FACTORS];
+    ntt::forward_factors(&mut forward);
+    ntt::backward_factors(&mut backward);
     judge_cases(kind, text, &forward, &backward)
 }
 

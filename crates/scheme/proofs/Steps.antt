@@ -36,26 +36,19 @@ noise-through a b s ha hs = ap (difference (multiple fifth b)) (left-through a (
 
 -- ---- decapsulation, with the sums as spectra
 
--- step 1: c + (a × r + e), where w is the spectrum of c + e
-pub summed-by-spectra : (a r e c v w : List ℕ) → length a ≡ n → length r ≡ n → w ≡ spectrumOf (sum c e) → v ≡ sum (pointwise a r) w
-    → v ≡ spectrumOf (summed (coefficientsOf a) (coefficientsOf r) e c)
-unfolding Any.summed Any.masked
-summed-by-spectra a r e c v w ha hr ew ev =
-    ev ∙ ap (sum (pointwise a r)) ew
-    ∙ sym (spectrum-through _ (sum-element (pointwise a r) (spectrumOf (sum c e))))
-    ∙ ap spectrumOf
-    (coefficients-of-sum (pointwise a r) (spectrumOf (sum c e)) (length-pointwise a r) (length-spectrum (sum c e) (sum-element c e .size))
-    ∙ ap₂ sum (product-by-spectra a r ha hr) (coefficients-through (sum c e) (sum-element c e))
-    ∙ sum-swapped (product (coefficientsOf a) (coefficientsOf r)) c e)
-
--- .. from the spectrum v of r
-pub summed-of-spectrum : (a r e c v x : List ℕ) → length r ≡ n → v ≡ spectrumOf r → x ≡ spectrumOf (summed (coefficientsOf a) (coefficientsOf v) e c)
+-- step 1: c + (a × r + e), from the spectra v of r and w of c + e
+pub summed-by-spectra : (a r e c v w p x : List ℕ) → length a ≡ n → length r ≡ n → v ≡ spectrumOf r → w ≡ spectrumOf (sum c e) → p ≡ pointwise a v → x ≡ sum p w
     → x ≡ spectrumOf (summed (coefficientsOf a) r e c)
 unfolding Any.summed Any.masked
-summed-of-spectrum a r e c v x size ev ex =
-    ex
-    ∙ ap (λ (p : List ℕ). spectrumOf (sum c (sum p e)))
-    (ap (λ (w : List ℕ). product (coefficientsOf a) (coefficientsOf w)) ev ∙ right-through (coefficientsOf a) r size)
+summed-by-spectra a r e c v w p x ha hr ev ew ep ex =
+    let v′ = spectrumOf r in
+    let size = length-spectrum r hr in
+    ex ∙ ap₂ sum (ep ∙ ap (pointwise a) ev) ew
+    ∙ sym (spectrum-through _ (sum-element (pointwise a v′) (spectrumOf (sum c e))))
+    ∙ ap spectrumOf
+    (coefficients-of-sum (pointwise a v′) (spectrumOf (sum c e)) (length-pointwise a v′) (length-spectrum (sum c e) (sum-element c e .size))
+    ∙ ap₂ sum (product-by-spectra a v′ ha size ∙ right-through (coefficientsOf a) r hr) (coefficients-through (sum c e) (sum-element c e))
+    ∙ sum-swapped (product (coefficientsOf a) r) c e)
 
 -- step 2: m = s2 - 5 × p
 pub noisy-by-spectra : (v p : List ℕ) → length v ≡ n → length p ≡ n → coefficientsOf (difference v (multiple 5 p)) ≡ noisy (coefficientsOf v) (coefficientsOf p)

@@ -3,17 +3,14 @@ use mathlib.Core.Bool.{Bool, true, false, decide}
 use mathlib.Core.List.{List}
 use Prim.Native.Nat.{ℕ}
 use Rattle.lists.specs.Table.{zeros}
-use Rattle.ntt.specs.Spectrum.{coefficientsOf}
 use Rattle.ring.specs.Ring.{n}
 use Rattle.ring.specs.Invertible.{invertible?}
 use Rattle.ring.specs.Centred.{within?}
-use Rattle.scheme.specs.Scheme.{Triple, Outcome, found, failed, keyNoise, decapsulation}
+use Rattle.scheme.specs.Scheme.{Triple, Outcome, found, failed, keyNoise}
 use Rattle.scheme.specs.declared.KeyCheck.{KeyCheck}
 use Rattle.scheme.specs.declared.KeyCheck.the-variants.{Sound, NotInvertible, KeyMismatch}
 use Rattle.scheme.specs.declared.Triple as Struct
-use Rattle.scheme.specs.declared.Encapsulation.{Encapsulation}
 use Rattle.scheme.specs.declared.Decapsulation.{Decapsulation}
-use Rattle.scheme.specs.declared.PreparedKey.{PreparedKey}
 
 -- ---- the key check: no inverse first, then b ÷ 5 - a × s not ternary
 
@@ -34,9 +31,3 @@ tripleOf t = record { r = t .r; e1 = t .e1; e2 = t .e2 }
 abbrev pub answer : Outcome → Decapsulation
 answer (found t) = record { found = true; triple = record { r = t .r; e1 = t .e1; e2 = t .e2 } }
 answer failed = record { found = false; triple = record { r = zeros n; e1 = zeros n; e2 = zeros n } }
-
--- decapsulation with a key that is given by its spectra
-abbrev pub opened : PreparedKey → Struct.Triple → Encapsulation → Outcome
-opened k dummy c =
-    decapsulation (coefficientsOf (k .a)) (coefficientsOf (k .b)) (coefficientsOf (k .inverse))
-    (coefficientsOf (k .s)) (tripleOf dummy) (c .c1) (c .c2)

@@ -1,5 +1,5 @@
-// The scheme of document 01 on ring elements, by value. A key is prepared once, and then holds spectra: the element with the spectrum v is
-// `coefficientsOf v`. The tables of factors are lent.
+// The scheme of document 01 on ring elements, by value. The elements of a key are given by their spectra: the element with the spectrum v
+// is `coefficientsOf v`. The tables of factors are lent.
 use ntt::DEGREE;
 use ntt::Element;
 use ntt::Spectrum;
@@ -8,9 +8,8 @@ ghost use mathlib.Core.Bool.{decide};
 ghost use Rattle.ntt.specs.Spectrum.{spectrumOf, coefficientsOf};
 ghost use Rattle.ntt.specs.Factors.{forwardFactors, backwardFactors};
 ghost use Rattle.ring.specs.Invertible.{invertible?};
-ghost use Rattle.ring.specs.Reciprocals.{reciprocalsOf};
 ghost use Rattle.scheme.specs.Scheme.{keyElement, keyNoise, masked, summed, noisy, recovered, recovers?, withoutDummy, ternary?, judged, core, decapsulation};
-ghost use Rattle.scheme.specs.Answers.{verdict, keyCheck, tripleOf, answer, opened};
+ghost use Rattle.scheme.specs.Answers.{verdict, keyCheck, tripleOf, answer};
 
 // ---- keys
 
@@ -40,14 +39,6 @@ pub struct CheckedKey {
     pub b: Spectrum,
     pub s: Spectrum,
     pub check: KeyCheck,
-}
-
-// A secret key prepared: the spectra of a, b, s and of the inverse of b.
-pub struct PreparedKey {
-    pub a: Spectrum,
-    pub b: Spectrum,
-    pub s: Spectrum,
-    pub inverse: Spectrum,
 }
 
 // Key generation from a, s and e. It tries once.
@@ -124,18 +115,6 @@ pub fn check_key(
     }
 }
 
-// A key with the inverse of its b, from the spectra of a, b and s; zeros for an inverse that does not exist.
-pub fn prepare(a: Spectrum, b: Spectrum, s: Spectrum) -> PreparedKey
-    ensures { λ k. ⌜ (k .a ≡ a) × (k .b ≡ b) × (k .s ≡ s) × (k .inverse ≡ reciprocalsOf b) ⌝ }
-{
-    PreparedKey {
-        a,
-        b,
-        s,
-        inverse: ring::reciprocals(b),
-    }
-}
-
 // ---- encapsulation
 
 pub struct Triple {
@@ -183,15 +162,6 @@ pub struct Sums {
     pub second: Spectrum,
 }
 
-// Step 1, of either half: c and the dummy's a × r + e, from the spectra of a and r.
-fn add_masked(a: Spectrum, r: Spectrum, e: Element, c: Element, forward: &[u16]) -> Spectrum
-    requires { ⌜ now forward ≡ forwardFactors ⌝ }
-    ensures { λ v. ⌜ v ≡ spectrumOf (summed (coefficientsOf a) (coefficientsOf r) e c) ⌝ }
-{
-    let rest = ntt::forward(ring::sum(c, e), forward);
-    ring::sum(ntt::pointwise(a, r), rest)
-}
-
 // Step 1: the encapsulation of the dummy is added.
 pub fn add_dummy(a: Spectrum, b: Spectrum, dummy: Triple, c: Encapsulation, forward: &[u16]) -> Sums
     requires { ⌜ now forward ≡ forwardFactors ⌝ }
@@ -204,9 +174,11 @@ pub fn add_dummy(a: Spectrum, b: Spectrum, dummy: Triple, c: Encapsulation, forw
     let c1 = c.c1;
     let c2 = c.c2;
     let r_spectrum = ntt::forward(r, forward);
+    let rest1 = ntt::forward(ring::sum(c1, e1), forward);
+    let rest2 = ntt::forward(ring::sum(c2, e2), forward);
     Sums {
-        first: add_masked(a, r_spectrum, e1, c1, forward),
-        second: add_masked(b, r_spectrum, e2, c2, forward),
+        first: ring::sum(ntt::pointwise(a, r_spectrum), rest1),
+        second: ring::sum(ntt::pointwise(b, r_spectrum), rest2),
     }
 }
 
@@ -327,21 +299,20 @@ pub fn core(
     judge(dummy, recover(a, inverse, sums, e2, forward, backward))
 }
 
-// Decapsulation with a dummy.
+// Decapsulation with a dummy, by the spectra of a, b, s and of the inverse of b.
 pub fn decapsulate(
-    k: PreparedKey,
+    a: Spectrum,
+    b: Spectrum,
+    s: Spectrum,
+    inverse: Spectrum,
     dummy: Triple,
     c: Encapsulation,
     forward: &[u16],
     backward: &[u16],
 ) -> Decapsulation
     requires { ⌜ (now forward ≡ forwardFactors) × (now backward ≡ backwardFactors) ⌝ }
-    ensures { λ d. ⌜ d ≡ answer (opened k dummy c) ⌝ }
+    ensures { λ d. ⌜ d ≡ answer (decapsulation (coefficientsOf a) (coefficientsOf b) (coefficientsOf inverse) (coefficientsOf s) (tripleOf dummy) (c .c1) (c .c2)) ⌝ }
 {
-    let a = k.a;
-    let b = k.b;
-    let s = k.s;
-    let inverse = k.inverse;
     let sums = add_dummy(a, b, dummy, c, forward);
     let first = sums.first;
     let product = ntt::pointwise(first, s);

@@ -2,6 +2,7 @@
 use keys::PublicKey;
 use keys::TRIPLE_NOISE_LENGTH;
 use ntt::Element;
+use ntt::FACTORS;
 use records::Answer;
 use records::BLOCK_LENGTH;
 use records::ENCAPSULATION_LENGTH;
@@ -63,8 +64,10 @@ fn encapsulate_records(key: &[u8], triple: &[u8]) -> Encapsulated
     ensures { λ e. ⌜ e .answer ≡ andThen (publicAnswer (now (key .entry))) (tripleAnswer (now (triple .entry))) ⌝ }
     ensures { λ e. ⌜ encapsulationBytes (e .c1) (e .c2) ≡ encapsulatedWith (firstOf (now (key .entry))) (secondOf (now (key .entry))) (tripleOf (now (triple .entry))) ⌝ }
 {
-    let forward = ntt::forward_factors();
-    let backward = ntt::backward_factors();
+    let mut forward = [0u16; FACTORS];
+    let mut backward = [0u16; FACTORS];
+    ntt::forward_factors(&mut forward);
+    ntt::backward_factors(&mut backward);
     let k = keys::read_public_key(key, &forward);
     let codes = records::check_triple(triple);
     let t = records::read_triple(triple);
@@ -148,8 +151,10 @@ fn seal_records(key: &[u8], noise: &[u8], entry: &[u8]) -> Sealed
     ensures { λ s. ⌜ s .answer ≡ publicAnswer (now (key .entry)) ⌝ }
     ensures { λ s. ⌜ sealedEntryBytes (s .c1) (s .c2) (s .body) (s .tag) ≡ sealedBytes (now (key .entry)) (now (noise .entry)) (now (entry .entry)) ⌝ }
 {
-    let forward = ntt::forward_factors();
-    let backward = ntt::backward_factors();
+    let mut forward = [0u16; FACTORS];
+    let mut backward = [0u16; FACTORS];
+    ntt::forward_factors(&mut forward);
+    ntt::backward_factors(&mut backward);
     let k = keys::read_public_key(key, &forward);
     let t = keys::noise_triple(noise);
     let block = records::read_block(entry);

@@ -132,31 +132,31 @@ fn layer_factors(w: &mut [u16], f: &[u16], k: usize)
     repeat(w, k);
 }
 
-fn pair_factors(f: &[u16]) -> [u16; FACTORS]
-    requires { ⌜ length (now f) ≡ degree ⌝ }
-    ensures { λ r. ⌜ r ≡ table 5120 (λ i. getD (now (f .entry)) (blockOf (i / 512) (i % 512)) 0) ⌝ }
+fn pair_factors(w: &mut [u16], f: &[u16])
+    requires { ⌜ (length (now w) ≡ 5120) × (length (now f) ≡ degree) ⌝ }
+    ensures { λ _. ⌜ now (w .exit) ≡ table 5120 (λ i. getD (now (f .entry)) (blockOf (i / 512) (i % 512)) 0) ⌝ }
 {
-    let mut r = [0u16; FACTORS];
     for k in 0..LAYERS {
         let start = HALF * k;
         let end = start + HALF;
-        layer_factors(&mut r[start..end], f, k);
+        layer_factors(&mut w[start..end], f, k);
     }
-    r
 }
 
+// A table is written where its caller wants it: as a result it would be copied, and take its room on the stack twice.
+
 // The table that the transform to values is lent.
-pub fn forward_factors() -> [u16; FACTORS]
-    ensures { λ r. ⌜ r ≡ forwardFactors ⌝ }
+pub fn forward_factors(w: &mut [u16; FACTORS])
+    ensures { λ _. ⌜ now (w .exit) ≡ forwardFactors ⌝ }
 {
     let f = block_factors(exponents());
-    pair_factors(&f)
+    pair_factors(w, &f);
 }
 
 // The table that the transform back is lent.
-pub fn backward_factors() -> [u16; FACTORS]
-    ensures { λ r. ⌜ r ≡ backwardFactors ⌝ }
+pub fn backward_factors(w: &mut [u16; FACTORS])
+    ensures { λ _. ⌜ now (w .exit) ≡ backwardFactors ⌝ }
 {
     let f = block_factors(opposites(exponents()));
-    pair_factors(&f)
+    pair_factors(w, &f);
 }

@@ -3,6 +3,7 @@ use mathlib.Core.Bool.{Bool}
 use denote.Ref.{now}
 use lib.Dec.{eqb}
 use lib.ListN.{length}
+use Rattle.ntt.proofs.Factors.{forward-size, backward-size}
 use borrow.Author.Tests.{eq-eqb, ne-eqb}
 use Rattle.records.specs.declared.Refusal.the-variants.{WrongLength}
 use Rattle.records.specs.Answers.{number, unless}
@@ -26,21 +27,21 @@ forward-factors-requires c κs = search needs
 backward-factors-requires : tie.Need-backward-factors-requires
 backward-factors-requires c κs = search needs
 
-slice-aggregate-check-secret-key : tie.Need-slice-aggregate-check-secret-key
-slice-aggregate-check-secret-key c = search needs
+slice-aggregate-read-secret-key : tie.Need-slice-aggregate-read-secret-key
+slice-aggregate-read-secret-key c = forward-size (c .before .before .before .forward-factors .ensures)
 
-slice-aggregate-check-secret-key-2 : tie.Need-slice-aggregate-check-secret-key-2
-slice-aggregate-check-secret-key-2 c = search needs
+slice-aggregate-read-secret-key-2 : tie.Need-slice-aggregate-read-secret-key-2
+slice-aggregate-read-secret-key-2 c = backward-size (c .before .before .backward-factors .ensures)
 
-check-secret-key-requires : tie.Need-check-secret-key-requires
-check-secret-key-requires c κs = search needs
+read-secret-key-requires : tie.Need-read-secret-key-requires
+read-secret-key-requires c κs = search needs
 
 returns-2 : tie.Need-returns-2
 unfolding checkAnswer
 returns-2 c =
-    let left = c .before .before .before .before .before in
+    let left = c .before .before .before .before .before .before .before in
     let k = now (left .before .before .args .key) in
-    let answer = c .check-secret-key .ensures .0 ∙ sym (ap (λ (b : Bool). unless b WrongLength (secretAnswer k)) (eq-eqb (length k) 4357 (left .if1 .left))) in
+    let answer = c .read-secret-key .ensures .0 ∙ sym (ap (λ (b : Bool). unless b WrongLength (secretAnswer k)) (eq-eqb (length k) 4357 (left .if1 .left))) in
     (answer, check-promise k (ap number answer))
 
 pub check-secret-key-spec : {M : Type 1} → statement M
@@ -50,7 +51,7 @@ check-secret-key-spec =
     returns
     forward-factors-requires
     backward-factors-requires
-    slice-aggregate-check-secret-key
-    slice-aggregate-check-secret-key-2
-    check-secret-key-requires
+    slice-aggregate-read-secret-key
+    slice-aggregate-read-secret-key-2
+    read-secret-key-requires
     returns-2)

@@ -9,6 +9,7 @@ use Rattle.records.specs.declared.Refusal.the-variants.{NotInvertible, StreamEx
 use Rattle.records.specs.declared.Answer.the-variants.{Done}
 use Rattle.records.specs.Answers.{unless, andThen}
 use Rattle.keys.specs.Keys.{keygenB, generatedAnswer}
+use Rattle.ntt.proofs.Factors.{forward-size, backward-size}
 use Rattle.keys.proofs.Equal.{ap-three}
 use borrow.Author.Needs.{needs}
 use Rattle.keys.proofs.generate.Statement.{statement}
@@ -33,10 +34,10 @@ ternary-requires-2 : tie.Need-ternary-requires-2
 ternary-requires-2 c κs = search needs
 
 slice-aggregate-generate : tie.Need-slice-aggregate-generate
-slice-aggregate-generate c = search needs
+slice-aggregate-generate c = forward-size (c .before .before .before .before .before .before .before .before .before .forward-factors .ensures)
 
 slice-aggregate-generate-2 : tie.Need-slice-aggregate-generate-2
-slice-aggregate-generate-2 c = search needs
+slice-aggregate-generate-2 c = backward-size (c .before .before .before .before .before .before .before .before .backward-factors .ensures)
 
 generate-requires : tie.Need-generate-requires
 generate-requires c κs = search needs

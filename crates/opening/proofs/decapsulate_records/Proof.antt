@@ -1,9 +1,9 @@
-use Rattle.keys.specs.Keys.{elementsOf}
 use mathlib.Core.Path.{refl, ap, _∙_}
 use denote.Ref.{now}
 use Rattle.records.proofs.Checks.{words-checked}
 use Rattle.opening.specs.Parts.{answered}
-use Rattle.opening.proofs.Laws.{read-sized, prepared-outcome, decapsulated-by}
+use Rattle.ntt.proofs.Factors.{forward-size, backward-size}
+use Rattle.opening.proofs.Laws.{read-sized, outcome-by, decapsulated-by}
 use borrow.Author.Needs.{needs}
 use Rattle.opening.proofs.decapsulate_records.Statement.{statement}
 use Rattle.opening.proofs.decapsulate_records.Tie as tie
@@ -15,13 +15,16 @@ backward-factors-requires : tie.Need-backward-factors-requires
 backward-factors-requires c κs = search needs
 
 slice-aggregate-read-secret-key : tie.Need-slice-aggregate-read-secret-key
-slice-aggregate-read-secret-key c = search needs
+slice-aggregate-read-secret-key c = forward-size (c .before .before .before .forward-factors .ensures)
 
 slice-aggregate-read-secret-key-2 : tie.Need-slice-aggregate-read-secret-key-2
-slice-aggregate-read-secret-key-2 c = search needs
+slice-aggregate-read-secret-key-2 c = backward-size (c .before .before .backward-factors .ensures)
 
 read-secret-key-requires : tie.Need-read-secret-key-requires
 read-secret-key-requires c κs = search needs
+
+reciprocals-requires : tie.Need-reciprocals-requires
+reciprocals-requires c κs = search needs
 
 read-encapsulation-requires : tie.Need-read-encapsulation-requires
 read-encapsulation-requires c κs = search needs
@@ -33,10 +36,10 @@ read-triple-requires : tie.Need-read-triple-requires
 read-triple-requires c κs = search needs
 
 slice-aggregate-find-triple : tie.Need-slice-aggregate-find-triple
-slice-aggregate-find-triple c = search needs
+slice-aggregate-find-triple c = forward-size (c .before .before .before .before .before .before .before .before .before .before .before .forward-factors .ensures)
 
 slice-aggregate-find-triple-2 : tie.Need-slice-aggregate-find-triple-2
-slice-aggregate-find-triple-2 c = search needs
+slice-aggregate-find-triple-2 c = backward-size (c .before .before .before .before .before .before .before .before .before .before .backward-factors .ensures)
 
 find-triple-requires : tie.Need-find-triple-requires
 find-triple-requires c κs = search needs
@@ -46,13 +49,15 @@ returns c =
     let dummy = c .before .before .before in
     let codes = dummy .before in
     let words = codes .before in
-    let key = words .before in
-    let args = key .before .before .before .before .before .before .before .before .args in
+    let inverse = words .before in
+    let key = inverse .before .before in
+    let (answer, ((a, b), s)) = key .read-secret-key .ensures in
+    let args = key .before .before .before .before .before .before .before .before .before .before .args in
     let (header, (elements, places)) = words .read-encapsulation .ensures in
     let o =
-    prepared-outcome (elementsOf (now (args .key))) (key .read-secret-key .result .key) (dummy .read-triple .result) _ (read-sized (now (args .key))) (key .read-secret-key .ensures .1) (dummy .read-triple .ensures) (elements .0) (elements .1) in (
+    outcome-by (key .read-secret-key .result) _ (dummy .read-triple .result) (words .read-encapsulation .result) (read-sized (now (args .key))) a b s (inverse .reciprocals .ensures) (dummy .read-triple .ensures) (elements .0) (elements .1) in (
       c .find-triple .ensures .0
-          ∙ decapsulated-by (key .read-secret-key .ensures .0) (words-checked (now (args .encapsulation)) header places refl) (codes .check-triple .ensures) o,
+          ∙ decapsulated-by answer (words-checked (now (args .encapsulation)) header places refl) (codes .check-triple .ensures) o,
       c .find-triple .ensures .1 ∙ ap answered o,
     )
 
@@ -65,6 +70,7 @@ decapsulate-records-spec =
     slice-aggregate-read-secret-key
     slice-aggregate-read-secret-key-2
     read-secret-key-requires
+    reciprocals-requires
     read-encapsulation-requires
     check-triple-requires
     read-triple-requires

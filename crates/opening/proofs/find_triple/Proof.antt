@@ -31,8 +31,8 @@ returns : tie.Need-returns
 returns c =
     let made = c .before .before .before .before .before in
     let read = made .before .before .before in
-    let args = read .before .before .before .before .args in
-    let o = outcomeBy (args .key) (args .dummy) (args .c) in
+    let args = read .before .before .before .before .before .before .args in
+    let o = outcomeBy (args .key) (args .inverse) (args .dummy) (args .c) in
     let found = made .decapsulate .ensures in
     let last = c .before .before .before .unless .ensures ∙ ap (λ (d : Decapsulation). unless (d .found) DecapsulationFailure Done) found ∙ found-answer o in (
       c .and-then3 .ensures

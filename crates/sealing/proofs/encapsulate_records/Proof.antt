@@ -3,6 +3,7 @@ use denote.Ref.{now}
 use Rattle.encoding.proofs.Words.{length-elementOf}
 use Rattle.records.specs.Answers.{andThen}
 use Rattle.records.specs.Records.{firstOf, secondOf}
+use Rattle.ntt.proofs.Factors.{forward-size, backward-size}
 use Rattle.sealing.proofs.Laws.{encapsulated-through}
 use borrow.Author.Needs.{needs}
 use Rattle.sealing.proofs.encapsulate_records.Statement.{statement}
@@ -15,7 +16,7 @@ backward-factors-requires : tie.Need-backward-factors-requires
 backward-factors-requires c κs = search needs
 
 slice-aggregate-read-public-key : tie.Need-slice-aggregate-read-public-key
-slice-aggregate-read-public-key c = search needs
+slice-aggregate-read-public-key c = forward-size (c .before .before .before .forward-factors .ensures)
 
 read-public-key-requires : tie.Need-read-public-key-requires
 read-public-key-requires c κs = search needs
@@ -27,10 +28,10 @@ read-triple-requires : tie.Need-read-triple-requires
 read-triple-requires c κs = search needs
 
 slice-aggregate-encapsulate-with : tie.Need-slice-aggregate-encapsulate-with
-slice-aggregate-encapsulate-with c = search needs
+slice-aggregate-encapsulate-with c = forward-size (c .before .before .before .before .before .before .before .forward-factors .ensures)
 
 slice-aggregate-encapsulate-with-2 : tie.Need-slice-aggregate-encapsulate-with-2
-slice-aggregate-encapsulate-with-2 c = search needs
+slice-aggregate-encapsulate-with-2 c = backward-size (c .before .before .before .before .before .before .backward-factors .ensures)
 
 encapsulate-with-requires : tie.Need-encapsulate-with-requires
 encapsulate-with-requires c κs = search needs
@@ -40,7 +41,7 @@ returns c =
     let triple = c .before .before .before in
     let codes = triple .before in
     let read = codes .before in
-    let k = now (read .before .before .before .before .before .before .args .key) in
+    let k = now (read .before .before .before .before .before .before .before .before .args .key) in
     let (checked, (a, b)) = read .read-public-key .ensures in
     let (answer, (c1, c2)) = c .encapsulate-with .ensures in (
       answer ∙ ap₂ andThen checked (codes .check-triple .ensures),

@@ -3,6 +3,7 @@ use denote.Ref.{now}
 use Rattle.encoding.proofs.Words.{length-elementOf}
 use Rattle.records.specs.Records.{firstOf, secondOf}
 use Rattle.calls.specs.Calls.{sealedBytes}
+use Rattle.ntt.proofs.Factors.{forward-size, backward-size}
 use Rattle.sealing.proofs.Laws.{sealed-through}
 use borrow.Author.Needs.{needs}
 use Rattle.sealing.proofs.seal_records.Statement.{statement}
@@ -15,7 +16,7 @@ backward-factors-requires : tie.Need-backward-factors-requires
 backward-factors-requires c κs = search needs
 
 slice-aggregate-read-public-key : tie.Need-slice-aggregate-read-public-key
-slice-aggregate-read-public-key c = search needs
+slice-aggregate-read-public-key c = forward-size (c .before .before .before .forward-factors .ensures)
 
 read-public-key-requires : tie.Need-read-public-key-requires
 read-public-key-requires c κs = search needs
@@ -27,10 +28,10 @@ read-block-requires : tie.Need-read-block-requires
 read-block-requires c κs = search needs
 
 slice-aggregate-seal-with : tie.Need-slice-aggregate-seal-with
-slice-aggregate-seal-with c = search needs
+slice-aggregate-seal-with c = forward-size (c .before .before .before .before .before .before .before .forward-factors .ensures)
 
 slice-aggregate-seal-with-2 : tie.Need-slice-aggregate-seal-with-2
-slice-aggregate-seal-with-2 c = search needs
+slice-aggregate-seal-with-2 c = backward-size (c .before .before .before .before .before .before .backward-factors .ensures)
 
 seal-with-requires : tie.Need-seal-with-requires
 seal-with-requires c κs = search needs
@@ -41,7 +42,7 @@ returns c =
     let entry = c .before .before .before in
     let triple = entry .before in
     let read = triple .before in
-    let k = now (read .before .before .before .before .before .before .before .args .key) in
+    let k = now (read .before .before .before .before .before .before .before .before .before .args .key) in
     let (checked, (a, b)) = read .read-public-key .ensures in
     let (answer, bytes) = c .seal-with .ensures in (
       answer ∙ checked,

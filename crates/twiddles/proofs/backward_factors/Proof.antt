@@ -21,7 +21,7 @@ pair-factors-requires c κs = search needs
 
 returns : tie.Need-returns
 returns c =
-    c .pair-factors .ensures ∙ backward-spread _ _ (c .before .before .block-factors .ensures) (c .before .before .before .opposites .ensures)
+    c .pair-factors .ensures ∙ backward-spread _ _ (c .before .before .before .block-factors .ensures) (c .before .before .before .before .opposites .ensures)
 
 pub backward-factors-spec : {M : Type 1} → statement M
 backward-factors-spec =

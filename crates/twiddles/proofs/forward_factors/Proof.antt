@@ -18,7 +18,7 @@ pair-factors-requires c κs = search needs
 
 returns : tie.Need-returns
 returns c =
-    c .pair-factors .ensures ∙ forward-spread _ _ (c .before .before .block-factors .ensures) (c .before .before .before .exponents .ensures)
+    c .pair-factors .ensures ∙ forward-spread _ _ (c .before .before .before .block-factors .ensures) (c .before .before .before .before .exponents .ensures)
 
 pub forward-factors-spec : {M : Type 1} → statement M
 forward-factors-spec =

@@ -1,7 +1,7 @@
 use native.Mathlib.Omega.{arith}
 use Rattle.lists.proofs.Parts.{length-part}
 use Rattle.twiddles.proofs.Factors.{layer-part}
-use mathlib.Core.Path.{ap, _∙_}
+use mathlib.Core.Path.{sym, ap, _∙_}
 use Prim.Native.Nat.{_+_, _-_, _*_, _/_, _%_}
 use lib.ListN.{length, getD}
 use Rattle.lists.specs.Table.{table}
@@ -13,13 +13,13 @@ use Rattle.twiddles.proofs.pair_factors.Statement.{statement}
 use Rattle.twiddles.proofs.pair_factors.Tie as tie
 
 abbrev Inv-loop : tie.InvT-loop
-Inv-loop f r₀ k₀ r k = Filled 5120 (table 5120 (λ i. getD f (blockOf (i / 512) (i % 512)) 0)) r (512 * k)
+Inv-loop w₀ f k₀ w k = Filled 5120 (table 5120 (λ i. getD f (blockOf (i / 512) (i % 512)) 0)) w (512 * k)
 
 abbrev μ-loop : tie.MeasureT-loop
-μ-loop f r₀ k₀ r k = 10 - k
+μ-loop w₀ f k₀ w k = 10 - k
 
 loop-holds : tie.Need-loop-holds Inv-loop μ-loop
-loop-holds c = filled-none _ _ (length-table 5120 _) (search needs)
+loop-holds c = filled-none _ _ (length-table 5120 _) (c .before .before .pre .0)
 
 mul-start : tie.Need-mul-start Inv-loop μ-loop
 mul-start c = search needs
@@ -27,23 +27,23 @@ mul-start c = search needs
 add-end : tie.Need-add-end Inv-loop μ-loop
 add-end c = search needs
 
-mul-r : tie.Need-mul-r Inv-loop μ-loop
-mul-r c = search needs
+mul-layer-factors : tie.Need-mul-layer-factors Inv-loop μ-loop
+mul-layer-factors c = search needs
 
 sub-layer-factors : tie.Need-sub-layer-factors Inv-loop μ-loop
 sub-layer-factors c = search needs
 
-part-r-start : tie.Need-part-r-start Inv-loop μ-loop
-part-r-start c = search needs
+part-layer-factors-start : tie.Need-part-layer-factors-start Inv-loop μ-loop
+part-layer-factors-start c = search needs
 
-part-r-end : tie.Need-part-r-end Inv-loop μ-loop
-part-r-end c = search needs
+part-layer-factors-end : tie.Need-part-layer-factors-end Inv-loop μ-loop
+part-layer-factors-end c = search needs
 
 layer-factors-requires : tie.Need-layer-factors-requires Inv-loop μ-loop
 layer-factors-requires c κs =
     let at = c .before .before in
     let start = 512 * at .loop .k in
-    (length-part start (start + 512) (at .loop .r) (omega (arith, at .loop .inv .size)) ∙ omega arith, at .before .before .pre, search needs)
+    (length-part start (start + 512) (at .loop .w) (omega (arith, at .loop .inv .size)) ∙ omega arith, at .before .before .before .pre .1, search needs)
 
 add-k : tie.Need-add-k Inv-loop μ-loop
 add-k c = search needs
@@ -53,11 +53,15 @@ loop-less c = search needs
 
 loop-again : tie.Need-loop-again Inv-loop μ-loop
 loop-again c =
-    let at = c .before .before .before .before in
+    let made = c .before .before in
+    let at = made .before .before .before in
     let k = at .loop .k in
-    let ensures = c .before .layer-factors .ensures in
-    filled-part (c .before .layer-factors .last .0) (512 * k + 512 - 512 * k) (at .loop .inv)
-    (ap length ensures ∙ length-table 512 _ ∙ omega arith) (omega arith) (omega arith) (ensures ∙ layer-part (at .before .before .args .f .now) k (search needs))
+    let ensures = made .layer-factors .ensures in
+    filled-part (made .layer-factors .last .0) (512 * k + 512 - 512 * k) (at .loop .inv)
+    (ap length ensures ∙ length-table 512 _ ∙ omega arith) (omega arith) (omega arith) (ensures ∙ layer-part (at .before .before .before .args .f .now) k (search needs))
+
+same-length : tie.Need-same-length Inv-loop μ-loop
+same-length c = c .before .loop .inv .size ∙ sym (c .before .before .before .before .pre .0)
 
 returns : tie.Need-returns Inv-loop μ-loop
 returns c = filled-all (c .before .loop .inv) (omega arith)
@@ -71,12 +75,13 @@ pair-factors-spec =
     loop-holds
     mul-start
     add-end
-    mul-r
+    mul-layer-factors
     sub-layer-factors
-    part-r-start
-    part-r-end
+    part-layer-factors-start
+    part-layer-factors-end
     layer-factors-requires
     add-k
     loop-less
     loop-again
+    same-length
     returns)
