@@ -1,25 +1,23 @@
--- The steps of a round on a state with complemented lanes.
+-- The rounds on a state with complemented lanes.
 use mathlib.Core.Path.{_≡_, refl, sym, ap, ap₂, _∙_}
-use mathlib.Core.List.{List, [], _∷_}
-use Prim.Native.Nat.{ℕ, zero, suc, _+_, _*_, _-_, _%_, _^_, _<_, _≤_}
+use Prim.Native.Nat.{ℕ, zero, suc, _+_, _*_, _%_, _^_, _<_, _≤_}
 use native.Mathlib.Nat.{mod-lt, zero-add}
 use native.Mathlib.Numerals.{add-one}
 use native.Mathlib.Omega.{arith}
-use lib.Bits.{bitXor, bitAnd, bitOr, xor-lt, or-lt, and-lt, xor-zero-r}
-use lib.ListN.{getD}
+use lib.Bits.{bitXor}
 use Rattle.lists.proofs.Xor.{xor-swap}
-use Rattle.keccak.specs.Constants.{offset}
-use Rattle.keccak.specs.Keccak.{State, lane, plane, state, rotate, complement, parity, effect, theta, rho, pi, chi, iota, round, rounds, keccakF}
-use Rattle.keccak.specs.Complementing.{complementIf, complementedBy, marks, marksBeforeChi, complemented, complementedChiPlane, complementedChi, complementedRound}
-use Rattle.keccak.proofs.States.{lane-state, state-same}
-use Rattle.keccak.proofs.Bits.{Wide, parity-lt, theta-wide, rho-wide, pi-wide, wide-state, rounds-wide}
-use Rattle.keccak.proofs.Words.{rotate-xor, xor-ones, not-lt, not-not, xor-not, not-xor, not-xor-not, not-or}
+use Rattle.keccak_steps.specs.Constants.{offset}
+use Rattle.keccak_steps.specs.Steps.{State, lane, state, rotate, parity, effect, theta, rho, pi, chi, iota}
+use Rattle.keccak_chi.specs.Complementing.{complementIf, complementedBy, marks, marksBeforeChi, complementedChi}
+use Rattle.keccak_steps.proofs.States.{Wide, lane-state, state-same}
+use Rattle.keccak_steps.proofs.Words.{rotate-xor}
+use Rattle.keccak_chi.proofs.Complements.{not-not}
+use Rattle.keccak_chi.proofs.Masks.{sum, mask, masks, masks-wide, complemented-sum}
+use Rattle.keccak.specs.Keccak.{round, rounds, keccakF}
+use Rattle.keccak.specs.Complementing.{complemented, complementedRound}
+use Rattle.keccak.proofs.Wide.{parity-lt, theta-wide, rho-wide, pi-wide, rounds-wide}
 
 -- ---- theta, rho and pi are linear
-
--- the lanes of two states added
-abbrev sum : State → State → State
-sum a b = state (λ x y. bitXor (lane a x y) (lane b x y))
 
 -- the steps before chi
 abbrev pub linear : State → State
@@ -75,36 +73,6 @@ linear-sum a b wa wb =
     ap (λ (s : State). pi (rho s)) (theta-sum a b wa wb)
     ∙ ap pi (rho-sum (theta a) (theta b) (theta-wide a wa) (theta-wide b wb))
 
--- ---- complements as sums with all ones
-
-mask : ℕ → ℕ
-mask zero = 0
-mask (suc n) = 2 ^ 64 - 1
-
-masks : State → State
-masks m = state (λ x y. mask (lane m x y))
-
-if-mask : (k v : ℕ) → v < 2 ^ 64 → complementIf k v ≡ bitXor v (mask k)
-unfolding mask
-if-mask zero v h = sym (xor-zero-r v)
-if-mask (suc n) v h = sym (xor-ones v h)
-
-mask-lt : (k : ℕ) → mask k < 2 ^ 64
-unfolding mask
-mask-lt zero = omega arith
-mask-lt (suc n) = omega arith
-
-masks-wide : (m : State) → Wide (masks m)
-unfolding masks
-masks-wide m = wide-state (λ x y. mask (lane m x y)) (λ x y hx hy. mask-lt (lane m x y))
-
-complemented-sum : (m a : State) → Wide a → complementedBy m a ≡ sum a (masks m)
-unfolding masks
-complemented-sum m a w =
-    state-same _ _
-    (λ x y hx hy.
-    if-mask (lane m x y) (lane a x y) (w x y hx hy) ∙ ap (bitXor (lane a x y)) (sym (lane-state (λ x y. mask (lane m x y)) x y hx hy)))
-
 -- antt computes where theta, rho and pi bring the ones
 linear-masks : linear (masks marks) ≡ masks marksBeforeChi
 unfolding masks mask
@@ -119,122 +87,6 @@ linear-complemented a w =
     ap linear (complemented-sum marks a w) ∙ linear-sum a (masks marks) w (masks-wide marks)
     ∙ ap (sum (linear a)) linear-masks
     ∙ sym (complemented-sum marksBeforeChi (linear a) (linear-wide a w))
-
--- ---- a lane of chi, where u, v, w and the lane itself are complemented or not
-
-module _ (u v w : ℕ) (hu : u < 2 ^ 64) (hv : v < 2 ^ 64) (hw : w < 2 ^ 64) where
-  or-in : bitXor (complement u) (bitAnd (complement v) (complement w)) ≡ bitXor u (bitOr v w)
-  or-in = ap (bitXor (complement u)) (not-or v w hv hw) ∙ not-xor-not u (bitOr v w) hu (or-lt 64 v w hv hw)
-
-  or-out : complement (bitXor u (bitAnd (complement v) (complement w))) ≡ bitXor u (bitOr v w)
-  or-out =
-      let h = or-lt 64 v w hv hw in
-      ap (λ (t : ℕ). complement (bitXor u t)) (not-or v w hv hw) ∙ ap complement (xor-not u (bitOr v w) hu h) ∙ not-not (bitXor u (bitOr v w)) (xor-lt 64 u (bitOr v w) hu h)
-
-  or-not : bitXor u (bitAnd (complement v) (complement w)) ≡ bitXor (complement u) (bitOr v w)
-  or-not =
-      let h = or-lt 64 v w hv hw in
-      ap (bitXor u) (not-or v w hv hw) ∙ xor-not u (bitOr v w) hu h ∙ sym (not-xor u (bitOr v w) hu h)
-
-  and-in : bitXor u (bitAnd (complement (complement v)) w) ≡ bitXor u (bitAnd v w)
-  and-in = ap (λ (t : ℕ). bitXor u (bitAnd t w)) (not-not v hv)
-
-  both-out : complement (bitXor (complement u) (bitAnd v w)) ≡ bitXor u (bitAnd v w)
-  both-out =
-      let h = and-lt 64 v w hv hw in
-      ap complement (not-xor u (bitAnd v w) hu h) ∙ not-not (bitXor u (bitAnd v w)) (xor-lt 64 u (bitAnd v w) hu h)
-
-or-last : (u v w : ℕ) → u < 2 ^ 64 → v < 2 ^ 64 → w < 2 ^ 64 → bitXor (complement u) (bitAnd (complement v) w) ≡ bitXor u (bitOr v (complement w))
-or-last u v w hu hv hw =
-    ap (λ (t : ℕ). bitXor (complement u) (bitAnd (complement v) t)) (sym (not-not w hw)) ∙ or-in u v (complement w) hu hv (not-lt w)
-
-and-out : (u v w : ℕ) → u < 2 ^ 64 → v < 2 ^ 64 → w < 2 ^ 64 → complement (bitXor (complement u) (bitAnd (complement (complement v)) w)) ≡ bitXor u (bitAnd v w)
-and-out u v w hu hv hw = ap complement (and-in (complement u) v w (not-lt u) hv hw) ∙ both-out u v w hu hv hw
-
-lanes-same : {a0 b0 a1 b1 a2 b2 a3 b3 a4 b4 : ℕ} → a0 ≡ b0 → a1 ≡ b1 → a2 ≡ b2 → a3 ≡ b3 → a4 ≡ b4
-    → _≡_ {A = List ℕ} (a0 ∷ a1 ∷ a2 ∷ a3 ∷ a4 ∷ []) (b0 ∷ b1 ∷ b2 ∷ b3 ∷ b4 ∷ [])
-lanes-same p0 p1 p2 p3 p4 = λ i. p0 i ∷ p1 i ∷ p2 i ∷ p3 i ∷ p4 i ∷ []
-
--- ---- what the code of each plane makes
-
-module _ (p : List ℕ) (h : (x : ℕ) → getD p x 0 < 2 ^ 64) where
-  abbrev b : ℕ → ℕ
-  b x = getD p x 0
-
-  pub chi-0 : complementedChiPlane 0 p
-      ≡ bitXor (b 0) (bitOr (b 1) (b 2))
-      ∷ bitXor (b 1) (bitOr (complement (b 2)) (b 3))
-      ∷ bitXor (b 2) (bitAnd (b 3) (b 4))
-      ∷ bitXor (b 3) (bitOr (b 4) (b 0))
-      ∷ bitXor (b 4) (bitAnd (b 0) (b 1))
-      ∷ []
-  chi-0 =
-      lanes-same
-      (or-in (b 0) (b 1) (b 2) (h 0) (h 1) (h 2))
-      (or-out (b 1) (complement (b 2)) (b 3) (h 1) (not-lt (b 2)) (h 3))
-      (and-out (b 2) (b 3) (b 4) (h 2) (h 3) (h 4))
-      (or-in (b 3) (b 4) (b 0) (h 3) (h 4) (h 0))
-      (and-in (b 4) (b 0) (b 1) (h 4) (h 0) (h 1))
-
-  pub chi-1 : complementedChiPlane 1 p
-      ≡ bitXor (b 0) (bitOr (b 1) (b 2))
-      ∷ bitXor (b 1) (bitAnd (b 2) (b 3))
-      ∷ bitXor (b 2) (bitOr (b 3) (complement (b 4)))
-      ∷ bitXor (b 3) (bitOr (b 4) (b 0))
-      ∷ bitXor (b 4) (bitAnd (b 0) (b 1))
-      ∷ []
-  chi-1 =
-      lanes-same
-      (or-in (b 0) (b 1) (b 2) (h 0) (h 1) (h 2))
-      (and-in (b 1) (b 2) (b 3) (h 1) (h 2) (h 3))
-      (or-last (b 2) (b 3) (b 4) (h 2) (h 3) (h 4))
-      (or-out (b 3) (b 4) (b 0) (h 3) (h 4) (h 0))
-      (and-in (b 4) (b 0) (b 1) (h 4) (h 0) (h 1))
-
-  pub chi-2 : complementedChiPlane 2 p
-      ≡ bitXor (b 0) (bitOr (b 1) (b 2))
-      ∷ bitXor (b 1) (bitAnd (b 2) (b 3))
-      ∷ bitXor (b 2) (bitAnd (complement (b 3)) (b 4))
-      ∷ bitXor (complement (b 3)) (bitOr (b 4) (b 0))
-      ∷ bitXor (b 4) (bitAnd (b 0) (b 1))
-      ∷ []
-  chi-2 =
-      lanes-same
-      (or-in (b 0) (b 1) (b 2) (h 0) (h 1) (h 2))
-      (and-in (b 1) (b 2) (b 3) (h 1) (h 2) (h 3))
-      (both-out (b 2) (complement (b 3)) (b 4) (h 2) (not-lt (b 3)) (h 4))
-      (or-not (b 3) (b 4) (b 0) (h 3) (h 4) (h 0))
-      (and-in (b 4) (b 0) (b 1) (h 4) (h 0) (h 1))
-
-  pub chi-3 : complementedChiPlane 3 p
-      ≡ bitXor (b 0) (bitAnd (b 1) (b 2))
-      ∷ bitXor (b 1) (bitOr (b 2) (b 3))
-      ∷ bitXor (b 2) (bitOr (complement (b 3)) (b 4))
-      ∷ bitXor (complement (b 3)) (bitAnd (b 4) (b 0))
-      ∷ bitXor (b 4) (bitOr (b 0) (b 1))
-      ∷ []
-  chi-3 =
-      lanes-same
-      (and-in (b 0) (b 1) (b 2) (h 0) (h 1) (h 2))
-      (or-in (b 1) (b 2) (b 3) (h 1) (h 2) (h 3))
-      (or-out (b 2) (complement (b 3)) (b 4) (h 2) (not-lt (b 3)) (h 4))
-      (and-in (complement (b 3)) (b 4) (b 0) (not-lt (b 3)) (h 4) (h 0))
-      (or-in (b 4) (b 0) (b 1) (h 4) (h 0) (h 1))
-
-  pub chi-4 : complementedChiPlane 4 p
-      ≡ bitXor (b 0) (bitAnd (complement (b 1)) (b 2))
-      ∷ bitXor (complement (b 1)) (bitOr (b 2) (b 3))
-      ∷ bitXor (b 2) (bitAnd (b 3) (b 4))
-      ∷ bitXor (b 3) (bitOr (b 4) (b 0))
-      ∷ bitXor (b 4) (bitAnd (b 0) (b 1))
-      ∷ []
-  chi-4 =
-      lanes-same
-      (both-out (b 0) (complement (b 1)) (b 2) (h 0) (not-lt (b 1)) (h 2))
-      (or-not (b 1) (b 2) (b 3) (h 1) (h 2) (h 3))
-      (and-in (b 2) (b 3) (b 4) (h 2) (h 3) (h 4))
-      (or-in (b 3) (b 4) (b 0) (h 3) (h 4) (h 0))
-      (and-in (b 4) (b 0) (b 1) (h 4) (h 0) (h 1))
 
 -- ---- a round, and the rounds
 

@@ -1,6 +1,3 @@
--- Laws on states, the step mappings on bits, words of 64 bits, complemented lanes.
-pub mod States
-pub mod Bits
-pub mod Words
-pub mod Given
+-- Laws of the rounds: lanes stay within 64 bits, complemented lanes.
+pub mod Wide
 pub mod Complementing

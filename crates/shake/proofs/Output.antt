@@ -10,10 +10,11 @@ use Rattle.lists.specs.Table.{table, tableFrom}
 use Rattle.lists.proofs.Tables.{length-table, table-append, table-same, take-table, part-table}
 use Rattle.lists.proofs.Parts.{length-part}
 use Rattle.lists.proofs.Fill.{Filled, filled-part, filled-all}
-use Rattle.keccak.specs.Keccak.{State}
-use Rattle.shake.specs.Sponge.{Rate, byteOf, bytesOf, permuted, squeezed, absorb, squeeze}
+use Rattle.keccak_steps.specs.Steps.{State}
+use Rattle.state_bytes.specs.Strings.{byteOf, bytesOf}
+use Rattle.state_bytes.proofs.Lanes.{take-bytes}
+use Rattle.shake.specs.Sponge.{Rate, permuted, squeezed, absorb, squeeze}
 use Rattle.shake.specs.Shake.{padded, shake, shake256}
-use Rattle.shake.proofs.Lanes.{take-bytes}
 
 -- byte i of all that is squeezed out of s
 abbrev pub byteAt : ℕ → State → ℕ → ℕ

@@ -1,4 +1,3 @@
 -- The sponge and SHAKE256 of FIPS 202.
 pub mod Sponge
 pub mod Shake
-pub mod Bits

@@ -1,53 +1,19 @@
 -- The sponge of FIPS 202, section 4, over Keccak-p[1600, 24], on strings of whole bytes. The rate r is counted in bytes.
 use mathlib.Core.List.{List, [], _∷_, _++_}
-use Prim.Native.Nat.{ℕ, zero, suc, _+_, _*_, _/_, _%_, _-_, _^_, _<_, _≤_}
+use Prim.Native.Nat.{ℕ, zero, suc, _+_, _*_, _/_, _%_, _-_, _<_, _≤_}
 use mathlib.Core.Path.{_≡_}
 use lib.Bits.{bitXor}
-use lib.ListN.{length, getD, take, drop}
-use Rattle.lists.specs.Table.{table, zeros}
-use Rattle.keccak.specs.Keccak.{State, lane, state, keccakF}
+use lib.ListN.{length, take, drop}
+use Rattle.lists.specs.Table.{zeros}
+use Rattle.keccak_steps.specs.Steps.{State, lane, state}
+use Rattle.keccak.specs.Keccak.{keccakF}
+use Rattle.state_bytes.specs.Strings.{stateOf, bytesOf}
 
 -- a rate of whole lanes
 pub record Rate (r : ℕ) : Type 0 where
   pub lanes : r % 8 ≡ 0
   pub some : 0 < r
   pub most : r ≤ 200
-
--- ---- B.1 and section 3.1: strings of bytes and states. A byte's lowest bit comes first.
-
--- eight bytes as a lane
-abbrev pub join8 : ℕ → ℕ → ℕ → ℕ → ℕ → ℕ → ℕ → ℕ → ℕ
-join8 b0 b1 b2 b3 b4 b5 b6 b7 =
-    b0 + b1 * 2 ^ 8 + b2 * 2 ^ 16 + b3 * 2 ^ 24 + b4 * 2 ^ 32 + b5 * 2 ^ 40 + b6 * 2 ^ 48 + b7 * 2 ^ 56
-
--- lane k of a string
-abbrev pub word : List ℕ → ℕ → ℕ
-word b k =
-    join8
-    (getD b (8 * k) 0)
-    (getD b (8 * k + 1) 0)
-    (getD b (8 * k + 2) 0)
-    (getD b (8 * k + 3) 0)
-    (getD b (8 * k + 4) 0)
-    (getD b (8 * k + 5) 0)
-    (getD b (8 * k + 6) 0)
-    (getD b (8 * k + 7) 0)
-
--- 3.1.2: the state of a string of 200 bytes; lane (x, y) is the string's lane 5 y + x
-abbrev pub stateOf : List ℕ → State
-stateOf b = state (λ x y. word b (5 * y + x))
-
--- byte j of a lane
-abbrev pub laneByte : ℕ → ℕ → ℕ
-laneByte v j = v / 2 ^ (8 * j) % 256
-
--- 3.1.3: byte p of a state's string
-abbrev pub byteOf : State → ℕ → ℕ
-byteOf s p = laneByte (lane s (p / 8 % 5) (p / 40)) (p % 8)
-
--- the string of a state
-unfoldable pub bytesOf : State → List ℕ
-bytesOf s = table 200 (byteOf s)
 
 -- ---- Algorithm 8
 

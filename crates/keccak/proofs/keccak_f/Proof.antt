@@ -3,7 +3,7 @@ use Prim.Native.Nat.{_≤_, _*_, _-_}
 use native.Mathlib.Omega.{arith}
 use borrow.Author.Needs.{needs}
 use Rattle.keccak.specs.Complementing.{complemented}
-use Rattle.keccak.proofs.Given.{wide}
+use Rattle.keccak_steps.proofs.Given.{wide}
 use Rattle.keccak.proofs.Complementing.{roundsFrom, two-more, all-rounds}
 use Rattle.keccak.proofs.keccak_f.Statement.{statement}
 use Rattle.keccak.proofs.keccak_f.Tie as tie

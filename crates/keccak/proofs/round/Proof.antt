@@ -1,8 +1,8 @@
 use mathlib.Core.Path.{ap, _∙_}
 use borrow.Author.Needs.{needs}
-use Rattle.keccak.specs.Keccak.{State, rho, pi, iota}
-use Rattle.keccak.specs.Complementing.{complementedChi}
-use Rattle.keccak.proofs.Given.{wide}
+use Rattle.keccak_steps.specs.Steps.{State, rho, pi, iota}
+use Rattle.keccak_chi.specs.Complementing.{complementedChi}
+use Rattle.keccak_steps.proofs.Given.{wide}
 use Rattle.keccak.proofs.Complementing.{round-steps}
 use Rattle.keccak.proofs.round.Statement.{statement}
 use Rattle.keccak.proofs.round.Tie as tie

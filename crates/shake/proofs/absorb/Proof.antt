@@ -6,10 +6,11 @@ use native.Mathlib.Omega.{arith}
 use lib.Bits.{bitXor}
 use lib.ListN.{length, getD}
 use denote.Ref.{now}
-use Rattle.keccak.specs.Keccak.{State, lane, state, keccakF}
+use Rattle.keccak_steps.specs.Steps.{State, lane, state}
+use Rattle.keccak.specs.Keccak.{keccakF}
+use Rattle.state_bytes.proofs.Lanes.{xor-words-is}
 use Rattle.shake.specs.Sponge.{block, absorbed, absorbBlock}
 use Rattle.shake.specs.Shake.{padded}
-use Rattle.shake.proofs.Lanes.{xor-words-is}
 use Rattle.shake.proofs.Blocks.{blocks-few, absorb-all}
 use borrow.Author.Needs.{needs}
 use Rattle.shake.proofs.absorb.Statement.{statement}

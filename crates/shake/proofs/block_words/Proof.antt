@@ -7,7 +7,8 @@ use lib.ListN.{length, take, drop}
 use denote.Ref.{now}
 use Rattle.lists.specs.Table.{table}
 use Rattle.lists.proofs.Parts.{length-part}
-use Rattle.shake.specs.Sponge.{word, block}
+use Rattle.state_bytes.specs.Strings.{word}
+use Rattle.shake.specs.Sponge.{block}
 use Rattle.shake.specs.Shake.{padded}
 use Rattle.shake.proofs.Blocks.{block-fits, start-fits, rest-fits, block-inside, block-end}
 use borrow.Author.Needs.{needs}

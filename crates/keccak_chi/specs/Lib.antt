@@ -1,0 +1,2 @@
+-- Chi on a state with complemented lanes.
+pub mod Complementing

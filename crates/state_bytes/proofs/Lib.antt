@@ -1,0 +1,2 @@
+-- Laws of strings of bytes and lanes.
+pub mod Lanes

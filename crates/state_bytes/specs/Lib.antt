@@ -1,0 +1,2 @@
+-- States as strings of bytes.
+pub mod Strings

@@ -1,0 +1,123 @@
+// States as strings of bytes: a string's lanes added to a state, and a state's bytes stored.
+ghost use mathlib.Core.Path.{_≡_};
+ghost use Prim.Native.Nat.{_+_, _*_, _%_, _<_, _≤_};
+ghost use lib.Bits.{bitXor};
+ghost use lib.ListN.{length, getD, take};
+ghost use Rattle.lists.specs.Table.{table};
+ghost use Rattle.keccak_steps.specs.Steps.{lane, plane, state};
+ghost use Rattle.state_bytes.specs.Strings.{join8, word, laneByte, bytesOf};
+
+// Eight bytes as a lane.
+fn join(b0: u8, b1: u8, b2: u8, b3: u8, b4: u8, b5: u8, b6: u8, b7: u8) -> u64
+    ensures { λ r. ⌜ r ≡ join8 b0 b1 b2 b3 b4 b5 b6 b7 ⌝ }
+{
+    (b0 as u64)
+        + (b1 as u64) * 0x100
+        + (b2 as u64) * 0x10000
+        + (b3 as u64) * 0x1000000
+        + (b4 as u64) * 0x100000000
+        + (b5 as u64) * 0x10000000000
+        + (b6 as u64) * 0x1000000000000
+        + (b7 as u64) * 0x100000000000000
+}
+
+// Lane k of a string.
+fn word(b: &[u8], k: usize) -> u64
+    requires { ⌜ 8 * k + 8 ≤ length (now b) ⌝ }
+    ensures { λ r. ⌜ r ≡ word (now (b .entry)) k ⌝ }
+{
+    let i = 8 * k;
+    join(
+        b[i],
+        b[i + 1],
+        b[i + 2],
+        b[i + 3],
+        b[i + 4],
+        b[i + 5],
+        b[i + 6],
+        b[i + 7],
+    )
+}
+
+// The lanes of a string of whole lanes, and zeros up to 25.
+pub fn words(b: &[u8]) -> [u64; 25]
+    requires { ⌜ (length (now b) % 8 ≡ 0) × (length (now b) ≤ 200) ⌝ }
+    ensures { λ r. ⌜ r ≡ table 25 (word (now (b .entry))) ⌝ }
+{
+    let mut w = [0u64; 25];
+    let n = b.len() / 8;
+    for k in 0..n {
+        w[k] = word(b, k);
+    }
+    w
+}
+
+// A plane with five lanes of w added, from lane 5 y on.
+fn xor_plane(p: [u64; 5], w: &[u64; 25], y: usize) -> [u64; 5]
+    requires { ⌜ y < 5 ⌝ }
+    ensures { λ r. ⌜ r ≡ plane (λ x. bitXor (getD p x 0) (getD (now (w .entry)) (5 * y + x) 0)) ⌝ }
+{
+    let i = 5 * y;
+    [
+        p[0] ^ w[i],
+        p[1] ^ w[i + 1],
+        p[2] ^ w[i + 2],
+        p[3] ^ w[i + 3],
+        p[4] ^ w[i + 4],
+    ]
+}
+
+// The state with the lanes of w added.
+pub fn xor_words(s: [[u64; 5]; 5], w: [u64; 25]) -> [[u64; 5]; 5]
+    ensures { λ r. ⌜ r ≡ state (λ x y. bitXor (lane s x y) (getD w (5 * y + x) 0)) ⌝ }
+{
+    [
+        xor_plane(s[0], &w, 0),
+        xor_plane(s[1], &w, 1),
+        xor_plane(s[2], &w, 2),
+        xor_plane(s[3], &w, 3),
+        xor_plane(s[4], &w, 4),
+    ]
+}
+
+// Stores a lane as eight bytes.
+fn put_lane(out: &mut [u8], v: u64)
+    requires { ⌜ length (now out) ≡ 8 ⌝ }
+    ensures { λ _. ⌜ now (out .exit) ≡ table 8 (laneByte v) ⌝ }
+{
+    out[0] = (v % 256) as u8;
+    out[1] = ((v >> 8) % 256) as u8;
+    out[2] = ((v >> 16) % 256) as u8;
+    out[3] = ((v >> 24) % 256) as u8;
+    out[4] = ((v >> 32) % 256) as u8;
+    out[5] = ((v >> 40) % 256) as u8;
+    out[6] = ((v >> 48) % 256) as u8;
+    out[7] = ((v >> 56) % 256) as u8;
+}
+
+// Stores the first bytes of a lane, as many as `out` has.
+fn put_lane_part(out: &mut [u8], v: u64)
+    requires { ⌜ length (now out) ≤ 8 ⌝ }
+    ensures { λ _. ⌜ now (out .exit) ≡ table (length (now (out .entry))) (laneByte v) ⌝ }
+{
+    let n = out.len();
+    for j in 0..n {
+        out[j] = ((v >> (8 * j)) % 256) as u8;
+    }
+}
+
+// Stores the first bytes of the state's string, as many as `out` has: whole lanes, then what is left.
+pub fn put_bytes(s: [[u64; 5]; 5], out: &mut [u8])
+    requires { ⌜ length (now out) ≤ 200 ⌝ }
+    ensures { λ _. ⌜ now (out .exit) ≡ take (length (now (out .entry))) (bytesOf s) ⌝ }
+{
+    let n = out.len() / 8;
+    for k in 0..n {
+        let at = 8 * k;
+        put_lane(&mut out[at..at + 8], s[k / 5][k % 5]);
+    }
+    let at = 8 * n;
+    if at < out.len() {
+        put_lane_part(&mut out[at..], s[n / 5][n % 5]);
+    }
+}
