@@ -11,8 +11,8 @@ use Rattle.lists.proofs.Tables.{length-table, table-append, table-same, take-ta
 use Rattle.lists.proofs.Parts.{length-part}
 use Rattle.lists.proofs.Fill.{Filled, filled-part, filled-all}
 use Rattle.keccak_steps.specs.Steps.{State}
-use Rattle.state_bytes.specs.Strings.{byteOf, bytesOf}
-use Rattle.state_bytes.proofs.Lanes.{take-bytes}
+use Rattle.state_to_string.specs.Bytes.{byteOf, bytesOf}
+use Rattle.state_to_string.proofs.LaneBytes.{take-bytes}
 use Rattle.shake.specs.Sponge.{Rate, permuted, squeezed, absorb, squeeze}
 use Rattle.shake.specs.Shake.{padded, shake, shake256}
 

@@ -7,7 +7,8 @@ use lib.ListN.{length, take, drop}
 use Rattle.lists.specs.Table.{zeros}
 use Rattle.keccak_steps.specs.Steps.{State, lane, state}
 use Rattle.keccak.specs.Keccak.{keccakF}
-use Rattle.state_bytes.specs.Strings.{stateOf, bytesOf}
+use Rattle.string_to_state.specs.Words.{stateOf}
+use Rattle.state_to_string.specs.Bytes.{bytesOf}
 
 -- a rate of whole lanes
 pub record Rate (r : ℕ) : Type 0 where

@@ -4,7 +4,7 @@ ghost use mathlib.Core.List.{_++_};
 ghost use Prim.Native.Nat.{_/_, _-_, _<_, _≤_};
 ghost use lib.ListN.{length};
 ghost use Rattle.lists.specs.Table.{table, zeros};
-ghost use Rattle.state_bytes.specs.Strings.{word};
+ghost use Rattle.string_to_state.specs.Words.{word};
 ghost use Rattle.shake.specs.Sponge.{Rate, block, absorb, squeeze};
 ghost use Rattle.shake.specs.Shake.{padding, padded, shake256};
 
@@ -47,10 +47,10 @@ fn block_words(rate: usize, input: &[u8], k: usize) -> [u64; 25]
 {
     let at = rate * k;
     if k < input.len() / rate {
-        return state_bytes::words(&input[at..at + rate]);
+        return string_to_state::words(&input[at..at + rate]);
     }
     let b = last_block(rate, &input[at..]);
-    state_bytes::words(&b[0..rate])
+    string_to_state::words(&b[0..rate])
 }
 
 // Algorithm 8, steps 1 to 6, for a message that is padded here. The permutation stands in one place: the compiler then copies no state.
@@ -62,7 +62,7 @@ fn absorb(rate: usize, input: &[u8]) -> [[u64; 5]; 5]
     let mut s = [[0u64; 5]; 5];
     for k in 0..n {
         let w = block_words(rate, input, k);
-        let t = keccak::keccak_f(state_bytes::xor_words(s, w));
+        let t = keccak::keccak_f(string_to_state::xor_words(s, w));
         s = t;
     }
     s
@@ -81,12 +81,12 @@ fn squeeze(rate: usize, s: [[u64; 5]; 5], out: &mut [u8])
     for k in 0..n {
         let at = rate * k;
         let current = s;
-        state_bytes::put_bytes(current, &mut out[at..at + rate]);
+        state_to_string::put_bytes(current, &mut out[at..at + rate]);
         let next = keccak::keccak_f(current);
         s = next;
     }
     let at = rate * n;
-    state_bytes::put_bytes(s, &mut out[at..]);
+    state_to_string::put_bytes(s, &mut out[at..]);
 }
 
 // SHAKE256: fills `out`, of any length, from a message of any length.

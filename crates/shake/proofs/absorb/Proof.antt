@@ -8,7 +8,7 @@ use lib.ListN.{length, getD}
 use denote.Ref.{now}
 use Rattle.keccak_steps.specs.Steps.{State, lane, state}
 use Rattle.keccak.specs.Keccak.{keccakF}
-use Rattle.state_bytes.proofs.Lanes.{xor-words-is}
+use Rattle.string_to_state.proofs.Lanes.{xor-words-is}
 use Rattle.shake.specs.Sponge.{block, absorbed, absorbBlock}
 use Rattle.shake.specs.Shake.{padded}
 use Rattle.shake.proofs.Blocks.{blocks-few, absorb-all}

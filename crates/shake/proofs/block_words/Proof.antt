@@ -7,7 +7,7 @@ use lib.ListN.{length, take, drop}
 use denote.Ref.{now}
 use Rattle.lists.specs.Table.{table}
 use Rattle.lists.proofs.Parts.{length-part}
-use Rattle.state_bytes.specs.Strings.{word}
+use Rattle.string_to_state.specs.Words.{word}
 use Rattle.shake.specs.Sponge.{block}
 use Rattle.shake.specs.Shake.{padded}
 use Rattle.shake.proofs.Blocks.{block-fits, start-fits, rest-fits, block-inside, block-end}

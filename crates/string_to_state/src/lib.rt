@@ -1,11 +1,11 @@
-// States as strings of bytes: a string's lanes added to a state, and a state's bytes stored.
+// Strings of bytes as states, FIPS 202, section 3.1.2: a string's lanes, and a state with them added.
 ghost use mathlib.Core.Path.{_≡_};
 ghost use Prim.Native.Nat.{_+_, _*_, _%_, _<_, _≤_};
 ghost use lib.Bits.{bitXor};
-ghost use lib.ListN.{length, getD, take};
+ghost use lib.ListN.{length, getD};
 ghost use Rattle.lists.specs.Table.{table};
 ghost use Rattle.keccak_steps.specs.Steps.{lane, plane, state};
-ghost use Rattle.state_bytes.specs.Strings.{join8, word, laneByte, bytesOf};
+ghost use Rattle.string_to_state.specs.Words.{join8, word};
 
 // Eight bytes as a lane.
 fn join(b0: u8, b1: u8, b2: u8, b3: u8, b4: u8, b5: u8, b6: u8, b7: u8) -> u64
@@ -78,46 +78,4 @@ pub fn xor_words(s: [[u64; 5]; 5], w: [u64; 25]) -> [[u64; 5]; 5]
         xor_plane(s[3], &w, 3),
         xor_plane(s[4], &w, 4),
     ]
-}
-
-// Stores a lane as eight bytes.
-fn put_lane(out: &mut [u8], v: u64)
-    requires { ⌜ length (now out) ≡ 8 ⌝ }
-    ensures { λ _. ⌜ now (out .exit) ≡ table 8 (laneByte v) ⌝ }
-{
-    out[0] = (v % 256) as u8;
-    out[1] = ((v >> 8) % 256) as u8;
-    out[2] = ((v >> 16) % 256) as u8;
-    out[3] = ((v >> 24) % 256) as u8;
-    out[4] = ((v >> 32) % 256) as u8;
-    out[5] = ((v >> 40) % 256) as u8;
-    out[6] = ((v >> 48) % 256) as u8;
-    out[7] = ((v >> 56) % 256) as u8;
-}
-
-// Stores the first bytes of a lane, as many as `out` has.
-fn put_lane_part(out: &mut [u8], v: u64)
-    requires { ⌜ length (now out) ≤ 8 ⌝ }
-    ensures { λ _. ⌜ now (out .exit) ≡ table (length (now (out .entry))) (laneByte v) ⌝ }
-{
-    let n = out.len();
-    for j in 0..n {
-        out[j] = ((v >> (8 * j)) % 256) as u8;
-    }
-}
-
-// Stores the first bytes of the state's string, as many as `out` has: whole lanes, then what is left.
-pub fn put_bytes(s: [[u64; 5]; 5], out: &mut [u8])
-    requires { ⌜ length (now out) ≤ 200 ⌝ }
-    ensures { λ _. ⌜ now (out .exit) ≡ take (length (now (out .entry))) (bytesOf s) ⌝ }
-{
-    let n = out.len() / 8;
-    for k in 0..n {
-        let at = 8 * k;
-        put_lane(&mut out[at..at + 8], s[k / 5][k % 5]);
-    }
-    let at = 8 * n;
-    if at < out.len() {
-        put_lane_part(&mut out[at..], s[n / 5][n % 5]);
-    }
 }

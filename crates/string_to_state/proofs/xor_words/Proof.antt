@@ -1,7 +1,7 @@
 use Rattle.keccak_steps.proofs.States.{planes-same}
 use borrow.Author.Needs.{needs}
-use Rattle.state_bytes.proofs.xor_words.Statement.{statement}
-use Rattle.state_bytes.proofs.xor_words.Tie as tie
+use Rattle.string_to_state.proofs.xor_words.Statement.{statement}
+use Rattle.string_to_state.proofs.xor_words.Tie as tie
 
 array-copy-out-xor-plane : tie.Need-array-copy-out-xor-plane
 array-copy-out-xor-plane c = search needs

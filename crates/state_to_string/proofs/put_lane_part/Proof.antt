@@ -5,10 +5,10 @@ use lib.ListN.{length}
 use Rattle.lists.specs.Table.{table}
 use Rattle.lists.proofs.Tables.{length-table}
 use Rattle.lists.proofs.Fill.{Filled, filled-none, filled-more-by, filled-all}
-use Rattle.state_bytes.specs.Strings.{laneByte}
+use Rattle.state_to_string.specs.Bytes.{laneByte}
 use borrow.Author.Needs.{needs}
-use Rattle.state_bytes.proofs.put_lane_part.Statement.{statement}
-use Rattle.state_bytes.proofs.put_lane_part.Tie as tie
+use Rattle.state_to_string.proofs.put_lane_part.Statement.{statement}
+use Rattle.state_to_string.proofs.put_lane_part.Tie as tie
 
 abbrev Inv-loop : tie.InvT-loop
 Inv-loop out₀ v n j₀ out j = Filled n (table n (laneByte v)) out j

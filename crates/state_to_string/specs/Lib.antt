@@ -1,2 +1,2 @@
 -- States as strings of bytes.
-pub mod Strings
+pub mod Bytes

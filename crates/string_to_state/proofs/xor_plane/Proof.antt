@@ -1,7 +1,7 @@
 use native.Mathlib.Nat.{add-zero}
 use borrow.Author.Needs.{needs}
-use Rattle.state_bytes.proofs.xor_plane.Statement.{statement}
-use Rattle.state_bytes.proofs.xor_plane.Tie as tie
+use Rattle.string_to_state.proofs.xor_plane.Statement.{statement}
+use Rattle.string_to_state.proofs.xor_plane.Tie as tie
 
 mul-i : tie.Need-mul-i
 mul-i c = search needs

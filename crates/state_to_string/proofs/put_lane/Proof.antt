@@ -2,9 +2,9 @@ use native.Mathlib.Omega.{arith}
 use lib.ListN.{length-set}
 use denote.Ref.{now}
 use borrow.Author.Needs.{needs}
-use Rattle.state_bytes.proofs.Lanes.{put-eight}
-use Rattle.state_bytes.proofs.put_lane.Statement.{statement}
-use Rattle.state_bytes.proofs.put_lane.Tie as tie
+use Rattle.state_to_string.proofs.LaneBytes.{put-eight}
+use Rattle.state_to_string.proofs.put_lane.Statement.{statement}
+use Rattle.state_to_string.proofs.put_lane.Tie as tie
 
 cast-out : tie.Need-cast-out
 cast-out c = search needs

@@ -6,11 +6,11 @@ use lib.ListN.{length}
 use Rattle.lists.specs.Table.{table}
 use Rattle.lists.proofs.Tables.{length-table, getD-table}
 use Rattle.lists.proofs.Fill.{ZeroFilled, zero-filled-none, zero-filled-more, zero-filled-all}
-use Rattle.state_bytes.specs.Strings.{word}
-use Rattle.state_bytes.proofs.Lanes.{words-zeros}
+use Rattle.string_to_state.specs.Words.{word}
+use Rattle.string_to_state.proofs.Lanes.{words-zeros}
 use borrow.Author.Needs.{needs}
-use Rattle.state_bytes.proofs.words.Statement.{statement}
-use Rattle.state_bytes.proofs.words.Tie as tie
+use Rattle.string_to_state.proofs.words.Statement.{statement}
+use Rattle.string_to_state.proofs.words.Tie as tie
 
 abbrev Inv-loop : tie.InvT-loop
 Inv-loop b w₀ n k₀ w k = ZeroFilled 25 (table n (word b)) w k

@@ -7,11 +7,11 @@ use Rattle.lists.specs.Table.{table}
 use Rattle.lists.proofs.Tables.{length-table}
 use Rattle.lists.proofs.Fill.{Filled, filled-none, filled-part, filled-all}
 use Rattle.keccak_steps.specs.Steps.{lane}
-use Rattle.state_bytes.specs.Strings.{laneByte, byteOf, bytesOf}
-use Rattle.state_bytes.proofs.Lanes.{lane-bytes, take-bytes, put-rest}
+use Rattle.state_to_string.specs.Bytes.{laneByte, byteOf, bytesOf}
+use Rattle.state_to_string.proofs.LaneBytes.{lane-bytes, take-bytes, put-rest}
 use borrow.Author.Needs.{needs}
-use Rattle.state_bytes.proofs.put_bytes.Statement.{statement}
-use Rattle.state_bytes.proofs.put_bytes.Tie as tie
+use Rattle.state_to_string.proofs.put_bytes.Statement.{statement}
+use Rattle.state_to_string.proofs.put_bytes.Tie as tie
 
 abbrev Inv-loop : tie.InvT-loop
 Inv-loop out₀ s n k₀ out k = Filled (length out₀) (table (length out₀) (byteOf s)) out (8 * k)

@@ -1,2 +1,0 @@
--- Laws of strings of bytes and lanes.
-pub mod Lanes

@@ -1,0 +1,2 @@
+-- Laws of the bytes of lanes.
+pub mod LaneBytes

@@ -1,0 +1,2 @@
+-- Laws of the lanes of a string.
+pub mod Lanes

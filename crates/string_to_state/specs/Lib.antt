@@ -1,0 +1,2 @@
+-- Strings of bytes as states.
+pub mod Words
