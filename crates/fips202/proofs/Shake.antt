@@ -2,7 +2,7 @@
 use mathlib.Core.Path.{_≡_, refl, sym, ap, ap₂, _∙_}
 use mathlib.Core.List.{List, [], _∷_, _++_, append-assoc}
 use Prim.Native.Nat.{ℕ, zero, suc, _+_, _*_, _-_, _/_, _%_, _^_, _<_, _≤_}
-use native.Mathlib.Nat.{add-zero, zero-div, mod-eq-of-lt, mod-lt, div-add-mod, mul-add-mod-self-left, mul-assoc, mul-add}
+use native.Mathlib.Nat.{add-zero, zero-div, mod-eq-of-lt, mod-lt, div-add-mod, div-div-eq-div-mul, mul-div-cancel-left, mul-add-mod-self-left, mul-assoc}
 use native.Mathlib.Omega.{arith}
 use lib.ListN.{length, getD, take, drop, length-append, length-replicate, replicate-append-replicate, List·getD-append}
 use lib.Bits.{bitXor, xor-lt}
@@ -304,20 +304,30 @@ padding-bytes (suc (suc q)) =
     bytes-cons 0x1F (zeros q ++ (0x80 ∷ [])) (omega arith)
     (bytes-append (zeros q) (0x80 ∷ []) (bytes-zeros [] q (λ i. omega arith)) (bytes-cons 0x80 [] (omega arith) (λ i. omega arith)))
 
+-- as many blocks of bits as of bytes
+eighths : (n r : ℕ) → 8 * n / (8 * r) ≡ n / r
+eighths n r = sym (div-div-eq-div-mul (8 * n) 8 r) ∙ ap (λ (k : ℕ). k / r) (mul-div-cancel-left n (omega arith))
+
+-- a SHAKE of any rate on bytes is the sponge of FIPS 202 on bits, of the message with 1111 behind it
+pub shake-bits : (r : ℕ) → 0 < r → (m : List ℕ) (d : ℕ) → Bytes m
+    → bitsOf (shake r m d) ≡ spongeBits (8 * r) (bitsOf m ++ (1 ∷ 1 ∷ 1 ∷ 1 ∷ [])) (8 * d)
+unfolding shake squeeze absorb spongeBits
+shake-bits r h m d w =
+    let suffix : List ℕ = 1 ∷ 1 ∷ 1 ∷ 1 ∷ [] in
+    let p : List ℕ = padded r m in
+    let s : State = absorbed r (length p / r) p in
+    let wp : Bytes p = bytes-append m (padding (r - length m % r)) w (padding-bytes (r - length m % r)) in
+    let long : 8 * length m + 4 ≡ length (bitsOf m ++ suffix) = sym (length-append (bitsOf m) suffix ∙ ap (λ (n : ℕ). n + 4) (length-bits m)) in
+    let string : bitsOf p ≡ (bitsOf m ++ suffix) ++ pad101 (8 * r) (length (bitsOf m ++ suffix)) =
+    padded-bits r m h ∙ ap (λ (n : ℕ). (bitsOf m ++ suffix) ++ pad101 (8 * r) n) long in
+    let blocks : length p / r ≡ length ((bitsOf m ++ suffix) ++ pad101 (8 * r) (length (bitsOf m ++ suffix))) / (8 * r) =
+    sym (ap (λ (n : ℕ). n / (8 * r)) (sym (ap length string) ∙ length-bits p) ∙ eighths (length p) r) in
+    let turns : d / r + 1 ≡ 8 * d / (8 * r) + 1 = ap (λ (n : ℕ). n + 1) (sym (eighths d r)) in
+    bits-take d (squeezed r (d / r + 1) s)
+    ∙ ap (take (8 * d)) (squeezed-bits r (d / r + 1) s (absorbed-wide r (length p / r) p wp)
+    ∙ ap₂ (squeezedBits (8 * r)) turns (absorbed-bits r (length p / r) p wp ∙ ap₂ (absorbedBits (8 * r)) blocks string))
+
 -- SHAKE256 on bytes is SHAKE256 of FIPS 202 on bits
 pub shake256-bits : (m : List ℕ) (d : ℕ) → Bytes m → bitsOf (shake256 m d) ≡ shake256Bits (bitsOf m) (8 * d)
-unfolding shake256 shake squeeze absorb shake256Bits spongeBits
-shake256-bits m d w =
-    let suffix : List ℕ = 1 ∷ 1 ∷ 1 ∷ 1 ∷ [] in
-    let p : List ℕ = padded 136 m in
-    let s : State = absorbed 136 (length p / 136) p in
-    let wp : Bytes p = bytes-append m (padding (136 - length m % 136)) w (padding-bytes (136 - length m % 136)) in
-    let long : 8 * length m + 4 ≡ length (bitsOf m ++ suffix) = sym (length-append (bitsOf m) suffix ∙ ap (λ (n : ℕ). n + 4) (length-bits m)) in
-    let string : bitsOf p ≡ (bitsOf m ++ suffix) ++ pad101 1088 (length (bitsOf m ++ suffix)) =
-    padded-bits 136 m (omega arith) ∙ ap (λ (n : ℕ). (bitsOf m ++ suffix) ++ pad101 1088 n) long in
-    let blocks : length p / 136 ≡ length ((bitsOf m ++ suffix) ++ pad101 1088 (length (bitsOf m ++ suffix))) / 1088 =
-    omega (arith, length-bits p, ap length string) in
-    let turns : d / 136 + 1 ≡ 8 * d / 1088 + 1 = omega arith in
-    bits-take d (squeezed 136 (d / 136 + 1) s)
-    ∙ ap (take (8 * d)) (squeezed-bits 136 (d / 136 + 1) s (absorbed-wide 136 (length p / 136) p wp)
-    ∙ ap₂ (squeezedBits 1088) turns (absorbed-bits 136 (length p / 136) p wp ∙ ap₂ (absorbedBits 1088) blocks string))
+unfolding shake256 shake256Bits
+shake256-bits m d w = shake-bits 136 (omega arith) m d w

@@ -65,16 +65,29 @@ unfolding squeeze
 squeeze-none r s [] h = refl
 squeeze-none r s (x ∷ xs) h = absurd (omega arith)
 
-rate256 : Rate 136
+-- ---- a SHAKE of any rate
+
+module _ (r : ℕ) (rate : Rate r) (m : List ℕ) where
+  pub length-shake : (d : ℕ) → length (shake r m d) ≡ d
+  unfolding shake
+  length-shake d = rw (squeeze-table r rate (absorb r (padded r m)) d) (length-table d _)
+
+  -- the first n bytes of a longer output are the output of length n
+  pub shake-prefix : (n d : ℕ) → n ≤ d → take n (shake r m d) ≡ shake r m n
+  unfolding shake
+  shake-prefix n d h =
+      let s : State = absorb r (padded r m) in
+      rw (squeeze-table r rate s d, squeeze-table r rate s n) (take-table n d (byteAt r s) h)
+
+-- ---- SHAKE256
+
+pub rate256 : Rate 136
 rate256 = record { lanes = refl; some = omega arith; most = omega arith }
 
 pub length-shake256 : (m : List ℕ) (d : ℕ) → length (shake256 m d) ≡ d
-unfolding shake256 shake
-length-shake256 m d = rw (squeeze-table 136 rate256 (absorb 136 (padded 136 m)) d) (length-table d _)
+unfolding shake256
+length-shake256 = length-shake 136 rate256
 
--- the first n bytes of a longer output are the output of length n
 pub shake256-prefix : (m : List ℕ) (n d : ℕ) → n ≤ d → take n (shake256 m d) ≡ shake256 m n
-unfolding shake256 shake
-shake256-prefix m n d h =
-    let s : State = absorb 136 (padded 136 m) in
-    rw (squeeze-table 136 rate256 s d, squeeze-table 136 rate256 s n) (take-table n d (byteAt 136 s) h)
+unfolding shake256
+shake256-prefix = shake-prefix 136 rate256
