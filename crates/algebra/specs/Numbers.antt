@@ -53,10 +53,10 @@ abbrev pub monomial : ℕ → ℕ → List ℕ
 monomial n i = table n (λ k. cond (eqb k i) 1 0)
 
 module _ (q n : ℕ) where
-  unfoldable pub plus : List ℕ → List ℕ → List ℕ
+  unfoldable pub plus : (a b : List ℕ) → List ℕ
   plus a b = table n (λ k. addMod q (getD a k 0) (getD b k 0))
 
-  unfoldable pub minus : List ℕ → List ℕ → List ℕ
+  unfoldable pub minus : (a b : List ℕ) → List ℕ
   minus a b = table n (λ k. subMod q (getD a k 0) (getD b k 0))
 
   unfoldable pub negate : List ℕ → List ℕ
@@ -77,12 +77,12 @@ module _ (q n : ℕ) where
   one = constant 1
 
   -- coefficient k of the product: the pairs with i + j = k, less those with i + j = n + k
-  unfoldable pub productCoefficient : List ℕ → List ℕ → ℕ → ℕ
+  unfoldable pub productCoefficient : (a b : List ℕ) (k : ℕ) → ℕ
   productCoefficient a b k =
       (sumBetween 0 (k + 1) (λ i. getD a i 0 * getD b (k - i) 0)
       + (q - 1) * sumBetween (k + 1) n (λ i. getD a i 0 * getD b (n + k - i) 0)) % q
 
-  unfoldable pub product : List ℕ → List ℕ → List ℕ
+  unfoldable pub product : (a b : List ℕ) → List ℕ
   product a b = table n (productCoefficient a b)
 
   -- b has an inverse, for a product of the ring

@@ -13,7 +13,7 @@ use Rattle.algebra.proofs.Ring as L
 use Rattle.algebra.proofs.Residues.{mod-mul-right}
 use Rattle.algebra.proofs.Elements as A
 use Rattle.exactness.specs.Setting.{Setting, Element, sum, difference, multiple, one}
-use Rattle.exactness.specs.Scheme.{keyElement, keyNoise, masked, recoveredR}
+use Rattle.exactness.specs.Scheme.{keyElement, keyError, masked, recoveredR}
 use Rattle.exactness.specs.Givens.{Givens}
 
 module _ (S : Setting) (G : Givens S) where
@@ -42,9 +42,9 @@ module _ (S : Setting) (G : Givens S) where
   unfolding keyElement
   keyElement-element a s e = multiple-element 5 _
 
-  pub keyNoise-element : (a b s : List ℕ) → Element S (keyNoise S a b s)
-  unfolding keyNoise
-  keyNoise-element a b s = difference-element _ _
+  pub keyError-element : (a b s : List ℕ) → Element S (keyError S a b s)
+  unfolding keyError
+  keyError-element a b s = difference-element _ _
 
   pub masked-element : (a r e : List ℕ) → Element S (masked S a r e)
   unfolding masked

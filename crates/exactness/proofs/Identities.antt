@@ -6,9 +6,9 @@ use Rattle.algebra.specs.Ring.{CommRing}
 use Rattle.algebra.proofs.Ring.{ring}
 use Rattle.algebra.proofs.Ring as L
 use Rattle.exactness.specs.Setting.{Setting, Element, sum, difference, multiple, one}
-use Rattle.exactness.specs.Scheme.{Triple, keyElement, keyNoise, masked, summed, noisy, recoveredR, recoveredE1}
+use Rattle.exactness.specs.Scheme.{Triple, keyElement, keyError, masked, summed, phase, recoveredR, recoveredE1}
 use Rattle.exactness.specs.Givens.{Givens}
-use Rattle.exactness.specs.Promises.{noise, noiseQuotient}
+use Rattle.exactness.specs.Promises.{phaseOf, phaseQuotient}
 use Rattle.exactness.proofs.Elements as E
 use Rattle.exactness.proofs.Elements.{elements, same-element, constant, minus-is, multiple-is, five-of-fifth, fifth-of-five, product-element}
 
@@ -71,10 +71,10 @@ module _ (S : Setting) (G : Givens S) where
   split-by-5 : (a s e r e1 e2 : Elements) → 5 ⋆ (a ⊗ s ⊕ e) ⊗ r ⊕ e2 ⊖ 5 ⋆ ((a ⊗ r ⊕ e1) ⊗ s) ≡ e2 ⊕ 5 ⋆ (e ⊗ r ⊖ e1 ⊗ s)
   split-by-5 a s e r e1 e2 = simp (minus-is, multiple-is) (split (constant S G 5) a s e r e1 e2)
 
-  pub noise-split : (a s e : List ℕ) (t : Triple) → Element S a → Element S s → Element S e → Element S (t .r) → Element S (t .e1) → Element S (t .e2)
-      → noise S a (keyElement S a s e) s t ≡ sum S (t .e2) (multiple S 5 (noiseQuotient S s e t))
-  unfolding noisy masked keyElement noiseQuotient elements E._⊖_ E._⋆_
-  noise-split a s e t ha hs he hr h1 h2 = ap list (split-by-5 (a, ha) (s, hs) (e, he) (t .r, hr) (t .e1, h1) (t .e2, h2))
+  pub phase-split : (a s e : List ℕ) (t : Triple) → Element S a → Element S s → Element S e → Element S (t .r) → Element S (t .e1) → Element S (t .e2)
+      → phaseOf S a (keyElement S a s e) s t ≡ sum S (t .e2) (multiple S 5 (phaseQuotient S s e t))
+  unfolding phase masked keyElement phaseQuotient elements E._⊖_ E._⋆_
+  phase-split a s e t ha hs he hr h1 h2 = ap list (split-by-5 (a, ha) (s, hs) (e, he) (t .r, hr) (t .e1, h1) (t .e2, h2))
 
   -- ---- step 4: R and E1, from an encapsulation
 
@@ -124,16 +124,16 @@ module _ (S : Setting) (G : Givens S) where
 
   -- ---- keys: 5 × (a × s + e) and b ÷ 5 - a × s undo each other
 
-  noise-of : (x e : Elements) → S .fifth ⋆ (5 ⋆ (x ⊕ e)) ⊖ x ≡ e
-  noise-of x e = ap (λ (u : Elements). u ⊖ x) (fifth-of-five S G (x ⊕ e)) ∙ less-left x e
+  error-of : (x e : Elements) → S .fifth ⋆ (5 ⋆ (x ⊕ e)) ⊖ x ≡ e
+  error-of x e = ap (λ (u : Elements). u ⊖ x) (fifth-of-five S G (x ⊕ e)) ∙ less-left x e
 
-  pub noise-of-key : (a s e : List ℕ) → Element S e → keyNoise S a (keyElement S a s e) s ≡ e
-  unfolding keyNoise keyElement elements E._⊖_ E._⋆_
-  noise-of-key a s e he = ap list (noise-of (S .product a s, product-element S G a s) (e, he))
+  pub error-of-key : (a s e : List ℕ) → Element S e → keyError S a (keyElement S a s e) s ≡ e
+  unfolding keyError keyElement elements E._⊖_ E._⋆_
+  error-of-key a s e he = ap list (error-of (S .product a s, product-element S G a s) (e, he))
 
   key-of : (x b : Elements) → 5 ⋆ (x ⊕ (S .fifth ⋆ b ⊖ x)) ≡ b
   key-of x b = ap (λ (u : Elements). 5 ⋆ u) (put-back x (S .fifth ⋆ b)) ∙ five-of-fifth S G b
 
-  pub key-of-noise : (a b s : List ℕ) → Element S b → keyElement S a s (keyNoise S a b s) ≡ b
-  unfolding keyNoise keyElement elements E._⊖_ E._⋆_
-  key-of-noise a b s hb = ap list (key-of (S .product a s, product-element S G a s) (b, hb))
+  pub key-of-error : (a b s : List ℕ) → Element S b → keyElement S a s (keyError S a b s) ≡ b
+  unfolding keyError keyElement elements E._⊖_ E._⋆_
+  key-of-error a b s hb = ap list (key-of (S .product a s, product-element S G a s) (b, hb))

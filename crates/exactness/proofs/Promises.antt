@@ -2,9 +2,9 @@
 use Rattle.exactness.specs.Setting.{Setting}
 use Rattle.exactness.specs.Givens.{Givens}
 use Rattle.exactness.specs.Promises.{Promises}
-use Rattle.exactness.proofs.Identities.{noise-of-key}
+use Rattle.exactness.proofs.Identities.{error-of-key}
 use Rattle.exactness.proofs.Step1.{step1}
-use Rattle.exactness.proofs.Noise.{noise-bound, largest-noise}
+use Rattle.exactness.proofs.Noise.{noise-bound, largest-phase}
 use Rattle.exactness.proofs.Recovery.{recovers, unique-within-2}
 use Rattle.exactness.proofs.Outcomes.{found-ternary}
 use Rattle.exactness.proofs.Exactness.{exact}
@@ -17,8 +17,8 @@ promises S G = record {
   found-ternary = found-ternary S G;
   step1 = step1 S G;
   noise-bound = noise-bound S G;
-  largest-noise = largest-noise S G;
+  largest-phase = largest-phase S G;
   recovers = λ a b i s t key. recovers S G a b i s key t;
   key-check = key-check S G;
-  key-noise = λ a s e he. noise-of-key S G a s e (he .0);
+  key-error = λ a s e he. error-of-key S G a s e (he .0);
 }

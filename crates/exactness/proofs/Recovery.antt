@@ -4,9 +4,9 @@ use mathlib.Core.List.{List}
 use Prim.Native.Nat.{ℕ, _*_}
 use native.Mathlib.Omega.{arith}
 use Rattle.exactness.specs.Setting.{Setting}
-use Rattle.exactness.specs.Scheme.{Triple, noisy, recovered, Formula, Matches, SoundKey}
+use Rattle.exactness.specs.Scheme.{Triple, phase, recovered, Formula, Matches, SoundKey}
 use Rattle.exactness.specs.Givens.{Givens}
-use Rattle.exactness.specs.Promises.{TripleWithin, noise, noiseQuotient, Recovers}
+use Rattle.exactness.specs.Promises.{TripleWithin, phaseOf, phaseQuotient, Recovers}
 use Rattle.exactness.proofs.Identities.{r-recovered, e1-recovered}
 use Rattle.exactness.proofs.Noise.{noise-bound, largest-quotient}
 
@@ -18,16 +18,16 @@ module _ (S : Setting) (G : Givens S) (a b i s : List ℕ) (key : SoundKey S a b
     finds-e1 = e1-recovered S G a (t .r) (t .e1) (h .e1-bounded .0);
   }
     where
-      by : Matches S a b s → S .remainders (noise S a b s t) ≡ t .e2
+      by : Matches S a b s → S .remainders (phaseOf S a b s t) ≡ t .e2
       by (e, he, is) =
-          ap (λ (x : List ℕ). S .remainders (noise S a x s t)) is
+          ap (λ (x : List ℕ). S .remainders (phaseOf S a x s t)) is
           ∙ ap (S .remainders) (noise-bound S G a s e t (key .a-element) (key .s-ternary .0) (he .0) h .split)
-          ∙ G .remainders-are (4 * G .κ * S .n) (t .e2) (noiseQuotient S s e t) (omega (arith, G .noise-bound)) (h .e2-bounded)
+          ∙ G .remainders-are (4 * G .κ * S .n) (t .e2) (phaseQuotient S s e t) (omega (arith, G .noise-bound)) (h .e2-bounded)
           (largest-quotient S G s e (key .s-ternary) he t h)
 
   -- the triple of c1 and c2, by steps 2 to 4
   pub recovered-is : (c1 c2 : List ℕ) (t : Triple) → TripleWithin S 2 t → Formula S a b c1 c2 t
-      → recovered S a i c1 c2 (S .remainders (noisy S c2 (S .product c1 s))) ≡ t
+      → recovered S a i c1 c2 (S .remainders (phase S c2 (S .product c1 s))) ≡ t
   unfolding recovered
   recovered-is c1 c2 t h f = rw (f .first, f .second, recovers t h .finds-e2, recovers t h .finds-r, recovers t h .finds-e1)
 

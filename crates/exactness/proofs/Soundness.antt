@@ -1,4 +1,4 @@
--- Soundness: the formula turns what is found into (c1, c2). It needs no bound on the noise, and of the key only that i is the inverse of b.
+-- Soundness: the formula turns what is found into (c1, c2). It needs no bound on m, and of the key only that i is the inverse of b.
 use mathlib.Core.Path.{_≡_, sym, subst}
 use mathlib.Core.List.{List}
 use Prim.Native.Nat.{ℕ}

@@ -5,7 +5,7 @@ use mathlib.Core.List.{List}
 use mathlib.Core.Logic.{_↔_}
 use Prim.Native.Nat.{ℕ, _+_, _*_}
 use Rattle.exactness.specs.Setting.{Setting, Element, Within, Bounded, Ternary, weight, sum, difference, multiple}
-use Rattle.exactness.specs.Scheme.{Triple, found, failed, keyElement, keyNoise, masked, summed, noisy, recoveredR, recoveredE1}
+use Rattle.exactness.specs.Scheme.{Triple, found, failed, keyElement, keyError, masked, summed, phase, recoveredR, recoveredE1}
 use Rattle.exactness.specs.Scheme.{decapsulation, TernaryTriple, Formula, Encapsulates, HasTriple, Matches, SoundKey}
 
 module _ (S : Setting) where
@@ -42,28 +42,28 @@ module _ (S : Setting) where
     pub within : TripleWithin 2 (sums t dummy)
     pub formula : Formula S a b (summed S a (dummy .r) (dummy .e1) c1) (summed S b (dummy .r) (dummy .e2) c2) (sums t dummy)
 
-  -- ---- the noise
+  -- ---- the phase, m of step 2
 
   -- m of step 2, where the formula turns R, E1, E2 into the sums
-  abbrev pub noise : List ℕ → List ℕ → List ℕ → Triple → List ℕ
-  noise a b s t = noisy S (masked S b (t .r) (t .e2)) (S .product (masked S a (t .r) (t .e1)) s)
+  abbrev pub phaseOf : (a b s : List ℕ) (t : Triple) → List ℕ
+  phaseOf a b s t = phase S (masked S b (t .r) (t .e2)) (S .product (masked S a (t .r) (t .e1)) s)
 
   -- w = e × R - E1 × s
-  unfoldable pub noiseQuotient : List ℕ → List ℕ → Triple → List ℕ
-  noiseQuotient s e t = difference S (S .product e (t .r)) (S .product (t .e1) s)
+  unfoldable pub phaseQuotient : (s e : List ℕ) (t : Triple) → List ℕ
+  phaseQuotient s e t = difference S (S .product e (t .r)) (S .product (t .e1) s)
 
   -- for b = 5 × (a × s + e), where the rule makes coefficients at most κ times as large
   pub record NoiseBound (κ : ℕ) (a s e : List ℕ) (t : Triple) : Type 0 where
     -- m = E2 + 5 × w
-    pub split : noise a (keyElement S a s e) s t ≡ sum S (t .e2) (multiple S 5 (noiseQuotient s e t))
+    pub split : phaseOf a (keyElement S a s e) s t ≡ sum S (t .e2) (multiple S 5 (phaseQuotient s e t))
     -- w is at most 2 κ times the weight of s and e in size, and so m at most 2 + 10 κ times that
-    pub quotient-bound : Within S (2 * κ * (weight S s + weight S e)) (noiseQuotient s e t)
-    pub bound : Within S (2 + 10 * κ * (weight S s + weight S e)) (noise a (keyElement S a s e) s t)
+    pub quotient-bound : Within S (2 * κ * (weight S s + weight S e)) (phaseQuotient s e t)
+    pub bound : Within S (2 + 10 * κ * (weight S s + weight S e)) (phaseOf a (keyElement S a s e) s t)
 
   -- ---- recovery: steps 2 to 4 find R, E1, E2 in the sums. Of s they see only its product with the first sum
 
   pub record Recovers (a b i s : List ℕ) (t : Triple) : Type 0 where
-    pub finds-e2 : S .remainders (noise a b s t) ≡ t .e2
+    pub finds-e2 : S .remainders (phaseOf a b s t) ≡ t .e2
     pub finds-r : recoveredR S i (masked S b (t .r) (t .e2)) (t .e2) ≡ t .r
     pub finds-e1 : recoveredE1 S a (masked S a (t .r) (t .e1)) (t .r) ≡ t .e1
 
@@ -82,12 +82,12 @@ module _ (S : Setting) where
     -- step 1, for an encapsulation of a ternary triple and any ternary dummy
     pub step1 : (a b c1 c2 : List ℕ) (t dummy : Triple) → Element S a → Element S b → Encapsulates S a b c1 c2 t → TernaryTriple S dummy
         → Step1 a b c1 c2 t dummy
-    -- the noise, by weight; for a sound key it is at most 2 + 20 κ n in size
+    -- m, by weight; for a sound key it is at most 2 + 20 κ n in size
     pub noise-bound : (a s e : List ℕ) (t : Triple) → Element S a → Element S s → Element S e → TripleWithin 2 t → NoiseBound κ a s e t
-    pub largest-noise : (a b i s : List ℕ) (t : Triple) → SoundKey S a b i s → TripleWithin 2 t → Within S (2 + 20 * κ * S .n) (noise a b s t)
+    pub largest-phase : (a b i s : List ℕ) (t : Triple) → SoundKey S a b i s → TripleWithin 2 t → Within S (2 + 20 * κ * S .n) (phaseOf a b s t)
     -- steps 2 to 4, for a sound key
     pub recovers : (a b i s : List ℕ) (t : Triple) → SoundKey S a b i s → TripleWithin 2 t → Recovers a b i s t
     -- the key check: b ÷ 5 - a × s is ternary exactly when b = 5 × (a × s + e) for some ternary e, for an element b and all a and s;
     -- that e is what the key was made with
-    pub key-check : (a b s : List ℕ) → Element S b → (S .within? 1 (keyNoise S a b s) ≡ true) ↔ Matches S a b s
-    pub key-noise : (a s e : List ℕ) → Ternary S e → keyNoise S a (keyElement S a s e) s ≡ e
+    pub key-check : (a b s : List ℕ) → Element S b → (S .within? 1 (keyError S a b s) ≡ true) ↔ Matches S a b s
+    pub key-error : (a s e : List ℕ) → Ternary S e → keyError S a (keyElement S a s e) s ≡ e

@@ -41,10 +41,10 @@ module _ (S : Setting) where
   unfoldable pub weight : List ℕ → ℕ
   weight a = sumBelow (S .n) (λ i. natAbs (S .centred (getD a i 0)))
 
-  abbrev pub sum : List ℕ → List ℕ → List ℕ
+  abbrev pub sum : (a b : List ℕ) → List ℕ
   sum a b = N.plus (S .q) (S .n) a b
 
-  abbrev pub difference : List ℕ → List ℕ → List ℕ
+  abbrev pub difference : (a b : List ℕ) → List ℕ
   difference a b = N.minus (S .q) (S .n) a b
 
   -- c × a for a number c

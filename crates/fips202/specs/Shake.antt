@@ -28,7 +28,7 @@ unfoldable pub pad101 : ℕ → ℕ → List ℕ
 pad101 x m = 1 ∷ (zeros ((x - (m + 2) % x) % x) ++ (1 ∷ []))
 
 -- Algorithm 8, step 6: f(S ⊕ (p || 0^c)) for a block p of r bits
-unfoldable pub absorbBlockBits : ℕ → List ℕ → List ℕ → List ℕ
+unfoldable pub absorbBlockBits : (r : ℕ) (s p : List ℕ) → List ℕ
 absorbBlockBits r s p = keccakBits (table 1600 (λ i. getD s i 0 ⊕ getD (p ++ zeros (1600 - r)) i 0))
 
 -- Algorithm 8, steps 5 and 6: S after the first n blocks of p

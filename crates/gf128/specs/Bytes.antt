@@ -25,15 +25,15 @@ bytes zero v = []
 bytes (suc n) v = v % 256 ∷ bytes n (v / 256)
 
 -- the sum: each byte of the one xor that of the other
-unfoldable pub sum : List ℕ → List ℕ → List ℕ
+unfoldable pub sum : (a b : List ℕ) → List ℕ
 sum a b = zipWith bitXor a b
 
 -- the product in the field
-unfoldable pub product : List ℕ → List ℕ → List ℕ
+unfoldable pub product : (a b : List ℕ) → List ℕ
 product a b = bytes 16 (times (number a) (number b))
 
 -- whether all bytes agree
-unfoldable pub equal : List ℕ → List ℕ → Bool
+unfoldable pub equal : (a b : List ℕ) → Bool
 equal [] [] = true
 equal [] (y ∷ ys) = false
 equal (x ∷ xs) [] = false
@@ -44,10 +44,10 @@ abbrev pub block : ℕ → List ℕ → List ℕ
 block i s = take 16 (drop (16 * i) s)
 
 -- Horner's rule over the first n blocks of a string: from `start`, each block is added and the sum is multiplied by k
-unfoldable pub folded : List ℕ → List ℕ → ℕ → List ℕ → List ℕ
+unfoldable pub folded : (k start : List ℕ) (blocks : ℕ) (s : List ℕ) → List ℕ
 folded k start zero s = start
 folded k start (suc n) s = product k (sum (folded k start n s) (block n s))
 
 -- The tag of the m whole blocks B1, .., Bm of a string: k1^m × B1 + .. + k1 × Bm + k2. Bytes behind the last whole block have no part in it.
-unfoldable pub tag : List ℕ → List ℕ → List ℕ → List ℕ
+unfoldable pub tag : (k1 s k2 : List ℕ) → List ℕ
 tag k1 s k2 = sum (folded k1 (zeros 16) (length s / 16) s) k2

@@ -11,6 +11,6 @@ power k zero = 1 ∷ zeros 15
 power k (suc n) = product k (power k n)
 
 -- k^n × B1 + k^(n - 1) × B2 + .. + k × Bn over the first n blocks of a string
-unfoldable pub weighted : List ℕ → ℕ → List ℕ → List ℕ
+unfoldable pub weighted : (k : List ℕ) (blocks : ℕ) (s : List ℕ) → List ℕ
 weighted k zero s = zeros 16
 weighted k (suc n) s = sum (product (power k (suc n)) (block 0 s)) (weighted k n (drop 16 s))

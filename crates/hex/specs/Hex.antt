@@ -41,5 +41,5 @@ abbrev pub decoded : List ℕ → List ℕ
 decoded text = take (firstFailing isDigit text / 2) (bytesOf text)
 
 -- a buffer into which s is written from the front, as far as there is room; the rest stays as it came
-abbrev pub written : List ℕ → List ℕ → List ℕ
+abbrev pub written : (s out : List ℕ) → List ℕ
 written s out = take (length out) s ++ drop (length s) out

@@ -10,7 +10,7 @@ complementIf zero v = v
 complementIf (suc n) v = complement v
 
 -- the lanes with the mark 1 complemented, of a plane and of a state
-abbrev pub planeBy : List ℕ → List ℕ → List ℕ
+abbrev pub planeBy : (marks p : List ℕ) → List ℕ
 planeBy marks p = plane (λ x. complementIf (getD marks x 0) (getD p x 0))
 
 abbrev pub complementedBy : State → State → State

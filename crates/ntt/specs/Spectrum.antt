@@ -21,5 +21,5 @@ unfoldable pub coefficientsOf : List ℕ → List ℕ
 coefficientsOf v = fromSpectrum q 10 ψ inverseDegree v
 
 -- the values of a product, from those of its two factors
-unfoldable pub pointwise : List ℕ → List ℕ → List ℕ
+unfoldable pub pointwise : (v w : List ℕ) → List ℕ
 pointwise v w = table degree (λ k. mulMod q (getD v k 0) (getD w k 0))

@@ -1,4 +1,4 @@
--- A key that was read, and what an outcome makes of answer and output.
+-- A key that was read, equal parts of an answer, and what is written.
 use mathlib.Core.Path.{_≡_, refl, ap, ap₂, _∙_}
 use mathlib.Core.Bool.{Bool, true, false, cond}
 use mathlib.Core.List.{List}
@@ -12,7 +12,6 @@ use Rattle.ring.specs.Reciprocals.{reciprocalsOf}
 use Rattle.ring.proofs.RingLaws.{length-inverse}
 use Rattle.ring.proofs.Transforms.{inverse-spectrum}
 use Rattle.scheme.specs.Scheme.{Triple, Outcome, found, failed, decapsulation}
-use Rattle.scheme.specs.Answers.{answer}
 use Rattle.scheme.specs.declared.Triple as Declared
 use Rattle.scheme.proofs.Steps.{decapsulation-through}
 use Rattle.encoding.proofs.Words.{length-elementOf}
@@ -28,7 +27,7 @@ use Rattle.records.specs.Answers.{unless, andThen, onDone}
 use Rattle.calls.specs.Calls.{outcome, outcomeAnswer, outcomeBytes, openedAnswer, openedEntry}
 use Rattle.keys.specs.Keys.{KeyElements, elementsOf}
 use Rattle.keys.specs.declared.SecretKey.{SecretKey}
-use Rattle.opening.specs.Parts.{asTriple, answered, outcomeBy, decapsulatedBy, openedBy, verifiedBy}
+use Rattle.recovery.specs.Outcomes.{asTriple, answered, outcomeBy, decapsulatedBy, openedBy, verifiedBy}
 
 -- ---- decapsulation with a key that was read
 
@@ -62,21 +61,6 @@ outcome-by k inverse t read {key} {dummy} {c1} {c2} size ea eb es ei et e1 e2 =
 
     s : List ℕ
     s = key .s
-
--- ---- what an outcome makes of answer and output
-
-pub found-answer : (o : Outcome) → unless (answer o .found) DecapsulationFailure Done ≡ outcomeAnswer o
-found-answer (found t) = refl
-found-answer failed = refl
-
-pub found-triple : (o : Outcome) → asTriple (answer o .triple) ≡ answered o
-found-triple (found t) = refl
-found-triple failed = refl
-
-pub verified-answer : (o : Outcome) (body tag : List ℕ)
-    → andThen (outcomeAnswer o) (unless (genuine? (answered o .r) (answered o .e1) (answered o .e2) body tag) TagMismatch Done) ≡ openedAnswer o body tag
-verified-answer (found t) body tag = refl
-verified-answer failed body tag = refl
 
 -- ---- equal parts
 

@@ -45,6 +45,6 @@ andThen Done a = a
 andThen (Refused r) a = Refused r
 
 -- what a lent output holds afterwards: the new bytes under Done, and otherwise what it held
-abbrev pub onDone : Answer → List ℕ → List ℕ → List ℕ
+abbrev pub onDone : (answer : Answer) (new old : List ℕ) → List ℕ
 onDone Done new old = new
 onDone (Refused r) new old = old

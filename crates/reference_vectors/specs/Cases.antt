@@ -50,14 +50,14 @@ answerAgrees? answer told bytes after = eqb (number answer) told && outputAgrees
 
 -- ---- calls with one output, by their inputs x, y and z, of which a call takes as many as it has
 
-abbrev pub callAnswer : Call → List ℕ → List ℕ → List ℕ → ℕ → Answer
+abbrev pub callAnswer : (call : Call) (x y z : List ℕ) (size : ℕ) → Answer
 callAnswer Encapsulate x y z size = encapsulateAnswer x y size
 callAnswer Decapsulate x y z size = decapsulateAnswer x y z size
 callAnswer Seal x y z size = sealAnswer x y z size
 callAnswer Open x y z size = openAnswer x y z size
 callAnswer Shake256 x y z size = Done
 
-abbrev pub callOut : Call → List ℕ → List ℕ → List ℕ → List ℕ → List ℕ
+abbrev pub callOut : (call : Call) (x y z out : List ℕ) → List ℕ
 callOut Encapsulate x y z out = encapsulateOut x y out
 callOut Decapsulate x y z out = decapsulateOut x y z out
 callOut Seal x y z out = sealOut x y z out

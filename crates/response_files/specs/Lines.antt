@@ -24,7 +24,7 @@ lineOf text =
     cond (ltb (firstFailing inLine text) (length text)) (withoutReturn (take (firstFailing inLine text) text)) []
 
 -- two lists are equal
-unfoldable pub same : List ℕ → List ℕ → Bool
+unfoldable pub same : (a b : List ℕ) → Bool
 same [] [] = true
 same [] (d ∷ b) = false
 same (c ∷ a) [] = false

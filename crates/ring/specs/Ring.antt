@@ -28,10 +28,10 @@ one = constant 1
 abbrev pub power : ℕ → List ℕ
 power i = N.monomial n i
 
-abbrev pub sum : List ℕ → List ℕ → List ℕ
+abbrev pub sum : (a b : List ℕ) → List ℕ
 sum a b = N.plus q n a b
 
-abbrev pub difference : List ℕ → List ℕ → List ℕ
+abbrev pub difference : (a b : List ℕ) → List ℕ
 difference a b = N.minus q n a b
 
 -- c × a for a number c
@@ -39,7 +39,7 @@ abbrev pub multiple : ℕ → List ℕ → List ℕ
 multiple c a = N.scale q n c a
 
 -- the plain sum over pairs: coefficient k is the sum of the a_i b_j with i + j = k less that of those with i + j = n + k
-abbrev pub product : List ℕ → List ℕ → List ℕ
+abbrev pub product : (a b : List ℕ) → List ℕ
 product a b = N.product q n a b
 
 -- document 01's unit: b × i = 1 for some element i

@@ -15,16 +15,16 @@ use Rattle.exactness.specs.Setting.{weight}
 use Rattle.exactness.specs.Scheme.{SoundKey, TernaryTriple, Encapsulates}
 use Rattle.exactness.specs.Promises as P
 use Rattle.exactness.specs.Promises.{TripleWithin, sums, Step1}
-use Rattle.exactness.proofs.Identities.{key-of-noise}
+use Rattle.exactness.proofs.Identities.{key-of-error}
 use Rattle.exactness.proofs.Sizes.{within-up, weight-bound}
-use Rattle.exactness.proofs.KeyCheck.{noise-ternary}
+use Rattle.exactness.proofs.KeyCheck.{error-ternary}
 use Rattle.ring.specs.Ring.{q, n}
 use Rattle.ring.specs.Centred.{centred, residue, Within, Ternary}
 use Rattle.ring.proofs.Integers.{abs-plus, abs-multiple}
 use Rattle.ring.proofs.Centring.{centred-same, centred-size, residue-below, centred-residue, residue-combination}
 use Rattle.ring.proofs.Ternaries.{ternary-entry}
-use Rattle.scheme.specs.Scheme.{Triple, setting, keyElement, keyNoise}
-use Rattle.scheme.specs.Noise.{nonzeros, keyWeight, noise, noiseQuotient, NoiseBound, step2, DecapsulationNoise}
+use Rattle.scheme.specs.Scheme.{Triple, setting, keyElement, keyError}
+use Rattle.scheme.specs.Noise.{nonzeros, keyWeight, phaseOf, phaseQuotient, NoiseBound, step2, DecapsulationPhase}
 use Rattle.scheme.proofs.Givens.{givens, combination-at, magnitude-at}
 use Rattle.scheme.proofs.Promises.{promises}
 
@@ -67,11 +67,11 @@ centred-combination c e w h he hw =
 
 module _ (a b i s : List ℕ) (key : SoundKey setting a b i s) (t : Triple) (h : TripleWithin setting 2 t) where
   e : List ℕ
-  e = keyNoise a b s
+  e = keyError a b s
 
   e-ternary : Ternary e
   unfolding e
-  e-ternary = noise-ternary setting givens a b s (key .matches)
+  e-ternary = error-ternary setting givens a b s (key .matches)
 
   -- the bound of crate exactness
   any : P.NoiseBound setting 1 a s e t
@@ -79,7 +79,7 @@ module _ (a b i s : List ℕ) (key : SoundKey setting a b i s) (t : Triple) (h :
 
   key-is : keyElement a s e ≡ b
   unfolding e
-  key-is = key-of-noise setting givens a b s (key .b-element)
+  key-is = key-of-error setting givens a b s (key .b-element)
 
   weights : weight setting s + weight setting e ≡ keyWeight a b s
   unfolding keyWeight e
@@ -88,41 +88,41 @@ module _ (a b i s : List ℕ) (key : SoundKey setting a b i s) (t : Triple) (h :
   weight-most : keyWeight a b s ≤ 2048
   weight-most = omega (arith, weights, weight-bound setting 1 s (key .s-ternary .1), weight-bound setting 1 e (e-ternary .1))
 
-  quotient-most : Within (2 * keyWeight a b s) (noiseQuotient a b s t)
+  quotient-most : Within (2 * keyWeight a b s) (phaseQuotient a b s t)
   unfolding e
   quotient-most = rw weights at (any .quotient-bound)
 
-  noise-most : Within (2 + 10 * keyWeight a b s) (noise a b s t)
-  noise-most = rw (weights, key-is) at (any .bound)
+  phase-most : Within (2 + 10 * keyWeight a b s) (phaseOf a b s t)
+  phase-most = rw (weights, key-is) at (any .bound)
 
-  split-at : (k : ℕ) → k < n → centred (getD (noise a b s t) k 0) ≡ centred (getD (t .e2) k 0) +ℤ pos 5 *ℤ centred (getD (noiseQuotient a b s t) k 0)
+  split-at : (k : ℕ) → k < n → centred (getD (phaseOf a b s t) k 0) ≡ centred (getD (t .e2) k 0) +ℤ pos 5 *ℤ centred (getD (phaseQuotient a b s t) k 0)
   unfolding e
   split-at k l =
-      ap (λ (x : List ℕ). centred (getD (noise a x s t) k 0)) (sym key-is) ∙ ap (λ (m : List ℕ). centred (getD m k 0)) (any .split)
-      ∙ centred-combination _ (getD (t .e2) k 0) (getD (noiseQuotient a b s t) k 0) (combination-at (t .e2) (noiseQuotient a b s t) k l)
-      (magnitude-at (t .e2) (h .e2-bounded .1) k l) (omega (arith, magnitude-at (noiseQuotient a b s t) quotient-most k l, weight-most))
+      ap (λ (x : List ℕ). centred (getD (phaseOf a x s t) k 0)) (sym key-is) ∙ ap (λ (m : List ℕ). centred (getD m k 0)) (any .split)
+      ∙ centred-combination _ (getD (t .e2) k 0) (getD (phaseQuotient a b s t) k 0) (combination-at (t .e2) (phaseQuotient a b s t) k l)
+      (magnitude-at (t .e2) (h .e2-bounded .1) k l) (omega (arith, magnitude-at (phaseQuotient a b s t) quotient-most k l, weight-most))
 
   pub noise-bound : NoiseBound a b s t
   noise-bound = record {
     split = split-at;
     quotient-bound = quotient-most;
-    bound = noise-most;
+    bound = phase-most;
     weight-bound = weight-most;
-    largest-quotient = within-up setting (noiseQuotient a b s t) (omega (arith, weight-most)) quotient-most;
-    largest = promises .largest-noise a b i s t key h;
+    largest-quotient = within-up setting (phaseQuotient a b s t) (omega (arith, weight-most)) quotient-most;
+    largest = promises .largest-phase a b i s t key h;
   }
 
 -- ---- in a decapsulation
 
-pub decapsulation-noise : (a b i s c1 c2 : List ℕ) (t dummy : Triple) → SoundKey setting a b i s → Encapsulates setting a b c1 c2 t
-    → TernaryTriple setting dummy → DecapsulationNoise a b s c1 c2 t dummy
-decapsulation-noise a b i s c1 c2 t dummy key m hd = record { same = is-noise; bound = bounds; largest = rw is-noise (bounds .largest) }
+pub decapsulation-phase : (a b i s c1 c2 : List ℕ) (t dummy : Triple) → SoundKey setting a b i s → Encapsulates setting a b c1 c2 t
+    → TernaryTriple setting dummy → DecapsulationPhase a b s c1 c2 t dummy
+decapsulation-phase a b i s c1 c2 t dummy key m hd = record { same = is-phase; bound = bounds; largest = rw is-phase (bounds .largest) }
   where
     first : Step1 setting a b c1 c2 t dummy
     first = promises .step1 a b c1 c2 t dummy (key .a-element) (key .b-element) m hd
 
-    is-noise : step2 a b s dummy c1 c2 ≡ noise a b s (sums setting t dummy)
-    is-noise = rw (first .formula .first, first .formula .second)
+    is-phase : step2 a b s dummy c1 c2 ≡ phaseOf a b s (sums setting t dummy)
+    is-phase = rw (first .formula .first, first .formula .second)
 
     bounds : NoiseBound a b s (sums setting t dummy)
     bounds = noise-bound a b i s key (sums setting t dummy) (first .within)

@@ -12,7 +12,7 @@ use Rattle.ring.specs.Ring.{n, fifth, sum, difference, multiple, product}
 use Rattle.ring.proofs.RingLaws.{sum-element, difference-element, multiple-element, sum-swapped}
 use Rattle.ring.proofs.Transforms.{product-by-spectra, left-through, right-through}
 use Rattle.ring.proofs.Spectra.{difference-reduced, coefficients-through, spectrum-through, coefficients-of-sum, coefficients-of-difference, coefficients-of-multiple}
-use Rattle.scheme.specs.Scheme.{Triple, Outcome, found, failed, keyNoise, masked, summed, noisy, core, decapsulation, recovered, recovers?, withoutDummy, ternary?, judged}
+use Rattle.scheme.specs.Scheme.{Triple, Outcome, found, failed, keyError, masked, summed, phase, core, decapsulation, recovered, recovers?, withoutDummy, ternary?, judged}
 
 -- triples are known by their parts
 pub triple-same : {t u : Triple} → t .r ≡ u .r → t .e1 ≡ u .e1 → t .e2 ≡ u .e2 → t ≡ u
@@ -30,9 +30,9 @@ masked-by-spectra a r e v p x size ev ep ex =
     ex ∙ ap (λ (y : List ℕ). sum y e) (ep ∙ ap (λ (w : List ℕ). product (coefficientsOf a) (coefficientsOf w)) ev ∙ right-through (coefficientsOf a) r size)
 
 -- b ÷ 5 - a × s, from the spectra of a and s
-pub noise-through : (a b s : List ℕ) → length a ≡ n → length s ≡ n → keyNoise (coefficientsOf (spectrumOf a)) b (coefficientsOf (spectrumOf s)) ≡ keyNoise a b s
-unfolding Any.keyNoise
-noise-through a b s ha hs = ap (difference (multiple fifth b)) (left-through a (coefficientsOf (spectrumOf s)) ha ∙ right-through a s hs)
+pub error-through : (a b s : List ℕ) → length a ≡ n → length s ≡ n → keyError (coefficientsOf (spectrumOf a)) b (coefficientsOf (spectrumOf s)) ≡ keyError a b s
+unfolding Any.keyError
+error-through a b s ha hs = ap (difference (multiple fifth b)) (left-through a (coefficientsOf (spectrumOf s)) ha ∙ right-through a s hs)
 
 -- ---- decapsulation, with the sums as spectra
 
@@ -51,9 +51,9 @@ summed-by-spectra a r e c v w p x ha hr ev ew ep ex =
     ∙ sum-swapped (product (coefficientsOf a) r) c e)
 
 -- step 2: m = s2 - 5 × p
-pub noisy-by-spectra : (v p : List ℕ) → length v ≡ n → length p ≡ n → coefficientsOf (difference v (multiple 5 p)) ≡ noisy (coefficientsOf v) (coefficientsOf p)
-unfolding Any.noisy
-noisy-by-spectra v p hv hp =
+pub phase-by-spectra : (v p : List ℕ) → length v ≡ n → length p ≡ n → coefficientsOf (difference v (multiple 5 p)) ≡ phase (coefficientsOf v) (coefficientsOf p)
+unfolding Any.phase
+phase-by-spectra v p hv hp =
     coefficients-of-difference v (multiple 5 p) hv (multiple-element 5 p .size) ∙ ap (difference (coefficientsOf v)) (coefficients-of-multiple 5 p hp)
 
 -- step 4: R, from the spectrum w of E2

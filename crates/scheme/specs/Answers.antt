@@ -6,7 +6,7 @@ use Rattle.lists.specs.Table.{zeros}
 use Rattle.ring.specs.Ring.{n}
 use Rattle.ring.specs.Invertible.{invertible?}
 use Rattle.ring.specs.Centred.{within?}
-use Rattle.scheme.specs.Scheme.{Triple, Outcome, found, failed, keyNoise}
+use Rattle.scheme.specs.Scheme.{Triple, Outcome, found, failed, keyError}
 use Rattle.scheme.specs.declared.KeyCheck.{KeyCheck}
 use Rattle.scheme.specs.declared.KeyCheck.the-variants.{Sound, NotInvertible, KeyMismatch}
 use Rattle.scheme.specs.declared.Triple as Struct
@@ -19,8 +19,8 @@ verdict false ternary = NotInvertible
 verdict true false = KeyMismatch
 verdict true true = Sound
 
-abbrev pub keyCheck : List ℕ → List ℕ → List ℕ → KeyCheck
-keyCheck a b s = verdict (decide (invertible? b)) (within? 1 (keyNoise a b s))
+abbrev pub keyCheck : (a b s : List ℕ) → KeyCheck
+keyCheck a b s = verdict (decide (invertible? b)) (within? 1 (keyError a b s))
 
 -- ---- decapsulation
 

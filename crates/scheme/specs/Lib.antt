@@ -2,5 +2,5 @@
 pub mod Scheme
 -- What the functions answer.
 pub mod Answers
--- How large the noise can be.
+-- How large m of step 2 can be.
 pub mod Noise

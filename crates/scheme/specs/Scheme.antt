@@ -13,42 +13,42 @@ abbrev pub setting : Setting
 setting = record { q = q; n = n; fifth = fifth; product = product; centred = centred; remainders = remainders; within? = within? }
 
 -- b = 5 × (a × s + e)
-abbrev pub keyElement : List ℕ → List ℕ → List ℕ → List ℕ
+abbrev pub keyElement : (a s e : List ℕ) → List ℕ
 keyElement a s e = Any.keyElement setting a s e
 
 -- b ÷ 5 - a × s
-abbrev pub keyNoise : List ℕ → List ℕ → List ℕ → List ℕ
-keyNoise a b s = Any.keyNoise setting a b s
+abbrev pub keyError : (a b s : List ℕ) → List ℕ
+keyError a b s = Any.keyError setting a b s
 
 -- a × r + e: c1 and c2 of an encapsulation
-abbrev pub masked : List ℕ → List ℕ → List ℕ → List ℕ
+abbrev pub masked : (a r e : List ℕ) → List ℕ
 masked a r e = Any.masked setting a r e
 
 -- ---- the steps of decapsulation
 
-abbrev pub summed : List ℕ → List ℕ → List ℕ → List ℕ → List ℕ
+abbrev pub summed : (a r e c : List ℕ) → List ℕ
 summed a r e c = Any.summed setting a r e c
 
-abbrev pub noisy : List ℕ → List ℕ → List ℕ
-noisy s2 s1s = Any.noisy setting s2 s1s
+abbrev pub phase : (s2 s1s : List ℕ) → List ℕ
+phase s2 s1s = Any.phase setting s2 s1s
 
-abbrev pub recovered : List ℕ → List ℕ → List ℕ → List ℕ → List ℕ → Triple
+abbrev pub recovered : (a i s1 s2 e2 : List ℕ) → Triple
 recovered a i s1 s2 e2 = Any.recovered setting a i s1 s2 e2
 
 abbrev pub recovers? : Triple → Bool
 recovers? t = Any.recovers? setting t
 
-abbrev pub withoutDummy : Triple → Triple → Triple
+abbrev pub withoutDummy : (dummy t : Triple) → Triple
 withoutDummy dummy t = Any.withoutDummy setting dummy t
 
 abbrev pub ternary? : Triple → Bool
 ternary? t = Any.ternary? setting t
 
-abbrev pub judged : Triple → Triple → Outcome
+abbrev pub judged : (dummy t : Triple) → Outcome
 judged dummy t = Any.judged setting dummy t
 
-abbrev pub core : List ℕ → List ℕ → Triple → List ℕ → List ℕ → List ℕ → Outcome
+abbrev pub core : (a i : List ℕ) (dummy : Triple) (s1 s2 s1s : List ℕ) → Outcome
 core a i dummy s1 s2 s1s = Any.core setting a i dummy s1 s2 s1s
 
-abbrev pub decapsulation : List ℕ → List ℕ → List ℕ → List ℕ → Triple → List ℕ → List ℕ → Outcome
+abbrev pub decapsulation : (a b i s : List ℕ) (dummy : Triple) (c1 c2 : List ℕ) → Outcome
 decapsulation a b i s dummy c1 c2 = Any.decapsulation setting a b i s dummy c1 c2

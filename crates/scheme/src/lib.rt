@@ -8,7 +8,7 @@ ghost use mathlib.Core.Bool.{decide};
 ghost use Rattle.ntt.specs.Spectrum.{spectrumOf, coefficientsOf};
 ghost use Rattle.ntt.specs.Factors.{forwardFactors, backwardFactors};
 ghost use Rattle.ring.specs.Invertible.{invertible?};
-ghost use Rattle.scheme.specs.Scheme.{keyElement, keyNoise, masked, summed, noisy, recovered, recovers?, withoutDummy, ternary?, judged, core, decapsulation};
+ghost use Rattle.scheme.specs.Scheme.{keyElement, keyError, masked, summed, phase, recovered, recovers?, withoutDummy, ternary?, judged, core, decapsulation};
 ghost use Rattle.scheme.specs.Answers.{verdict, keyCheck, tripleOf, answer};
 
 // ---- keys
@@ -69,9 +69,9 @@ pub fn public_key(a: Element, b: Element, forward: &[u16]) -> PreparedPublicKey
 }
 
 // b ÷ 5 - a × s, the e of a sound key, from the spectra of a and s; 35,636 is the reciprocal of 5.
-fn key_noise(a: Spectrum, b: Element, s: Spectrum, backward: &[u16]) -> Element
+fn key_error(a: Spectrum, b: Element, s: Spectrum, backward: &[u16]) -> Element
     requires { ⌜ now backward ≡ backwardFactors ⌝ }
-    ensures { λ r. ⌜ r ≡ keyNoise (coefficientsOf a) b (coefficientsOf s) ⌝ }
+    ensures { λ r. ⌜ r ≡ keyError (coefficientsOf a) b (coefficientsOf s) ⌝ }
 {
     let product = ring::product_of_spectra(a, s, backward);
     ring::difference(ring::multiple(35636, b), product)
@@ -105,8 +105,8 @@ pub fn check_key(
     let b_spectrum = ntt::forward(b, forward);
     let s_spectrum = ntt::forward(s, forward);
     let zero = ring::has_zero(b_spectrum);
-    let noise = key_noise(a_spectrum, b, s_spectrum, backward);
-    let ternary = ring::is_within(noise, 1);
+    let error = key_error(a_spectrum, b, s_spectrum, backward);
+    let ternary = ring::is_within(error, 1);
     CheckedKey {
         a: a_spectrum,
         b: b_spectrum,
@@ -183,9 +183,9 @@ pub fn add_dummy(a: Spectrum, b: Spectrum, dummy: Triple, c: Encapsulation, forw
 }
 
 // Step 2: m, from the second sum and the product of the first with s.
-pub fn noisy(second: Spectrum, product: Spectrum, backward: &[u16]) -> Element
+pub fn phase(second: Spectrum, product: Spectrum, backward: &[u16]) -> Element
     requires { ⌜ now backward ≡ backwardFactors ⌝ }
-    ensures { λ m. ⌜ m ≡ noisy (coefficientsOf second) (coefficientsOf product) ⌝ }
+    ensures { λ m. ⌜ m ≡ phase (coefficientsOf second) (coefficientsOf product) ⌝ }
 {
     ntt::backward(
         ring::difference(second, ring::multiple(5, product)),
@@ -295,7 +295,7 @@ pub fn core(
     ensures { λ d. ⌜ d ≡ answer (core (coefficientsOf a) (coefficientsOf inverse) (tripleOf dummy) (coefficientsOf (sums .first)) (coefficientsOf (sums .second)) (coefficientsOf product)) ⌝ }
 {
     let second = sums.second;
-    let e2 = ring::remainders(noisy(second, product, backward));
+    let e2 = ring::remainders(phase(second, product, backward));
     judge(dummy, recover(a, inverse, sums, e2, forward, backward))
 }
 

@@ -1,7 +1,7 @@
 use mathlib.Core.Path.{refl, ap, _∙_}
 use denote.Ref.{now}
 use Rattle.records.proofs.Checks.{words-checked}
-use Rattle.opening.specs.Parts.{answered}
+use Rattle.recovery.specs.Outcomes.{answered}
 use Rattle.ntt.proofs.Factors.{forward-size, backward-size}
 use Rattle.opening.proofs.Laws.{read-sized, outcome-by, decapsulated-by}
 use borrow.Author.Needs.{needs}

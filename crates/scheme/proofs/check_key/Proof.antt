@@ -7,9 +7,9 @@ use Rattle.ntt.specs.Spectrum.{coefficientsOf}
 use Rattle.ring.specs.Centred.{within?}
 use Rattle.ring.specs.Reciprocals.{hasZero}
 use Rattle.ring.proofs.Transforms.{zero-decides}
-use Rattle.scheme.specs.Scheme.{keyNoise}
+use Rattle.scheme.specs.Scheme.{keyError}
 use Rattle.scheme.specs.Answers.{verdict}
-use Rattle.scheme.proofs.Steps.{noise-through}
+use Rattle.scheme.proofs.Steps.{error-through}
 use borrow.Author.Needs.{needs}
 use Rattle.scheme.proofs.check_key.Statement.{statement}
 use Rattle.scheme.proofs.check_key.Tie as tie
@@ -18,7 +18,7 @@ use Rattle.scheme.proofs.check_key.Lts as lts
 use Rattle.ntt.proofs.forward.Reads as forward-reads
 use Rattle.ring.proofs.has_zero.Reads as has-zero-reads
 use Rattle.ring.proofs.is_within.Reads as is-within-reads
-use Rattle.scheme.proofs.key_noise.Reads as key-noise-reads
+use Rattle.scheme.proofs.key_error.Reads as key-error-reads
 use Rattle.scheme.proofs.verdict.Reads as verdict-reads
 
 forward-requires : tie.Need-forward-requires
@@ -33,8 +33,8 @@ forward-requires-3 c κs = search needs
 has-zero-requires : tie.Need-has-zero-requires
 has-zero-requires c κs = search needs
 
-key-noise-requires : tie.Need-key-noise-requires
-key-noise-requires c κs = search needs
+key-error-requires : tie.Need-key-error-requires
+key-error-requires c κs = search needs
 
 is-within-requires : tie.Need-is-within-requires
 is-within-requires c κs = search needs
@@ -55,9 +55,9 @@ returns c =
     let b = spectra .before .forward2 .ensures in
     let s = spectra .forward3 .ensures in
     let invertible = ap not (tested .before .before .has-zero .ensures ∙ ap hasZero b) ∙ zero-decides (args .b) hb in
-    let noise = tested .before .key-noise .ensures
-    ∙ ap₂ (λ (x y : List ℕ). keyNoise (coefficientsOf x) (args .b) (coefficientsOf y)) a s ∙ noise-through (args .a) (args .b) (args .s) ha hs in
-    (c .verdict .ensures ∙ ap₂ verdict invertible (tested .is-within .ensures ∙ ap (within? 1) noise), (a, b, s))
+    let error = tested .before .key-error .ensures
+    ∙ ap₂ (λ (x y : List ℕ). keyError (coefficientsOf x) (args .b) (coefficientsOf y)) a s ∙ error-through (args .a) (args .b) (args .s) ha hs in
+    (c .verdict .ensures ∙ ap₂ verdict invertible (tested .is-within .ensures ∙ ap (within? 1) error), (a, b, s))
 
 pub check-key-spec : {M : Type 1} → statement M
 check-key-spec =
@@ -67,7 +67,7 @@ check-key-spec =
     forward-requires-2
     forward-requires-3
     has-zero-requires
-    key-noise-requires
+    key-error-requires
     is-within-requires
     verdict-requires
     returns)

@@ -11,11 +11,11 @@ use Rattle.scheme.proofs.core.Reads as reads
 use Rattle.scheme.proofs.core.Lts as lts
 use Rattle.ring.proofs.remainders.Reads as remainders-reads
 use Rattle.scheme.proofs.judge.Reads as judge-reads
-use Rattle.scheme.proofs.noisy.Reads as noisy-reads
+use Rattle.scheme.proofs.phase.Reads as phase-reads
 use Rattle.scheme.proofs.recover.Reads as recover-reads
 
-noisy-requires : tie.Need-noisy-requires
-noisy-requires c κs = search needs
+phase-requires : tie.Need-phase-requires
+phase-requires c κs = search needs
 
 remainders-requires : tie.Need-remainders-requires
 remainders-requires c κs = search needs
@@ -31,7 +31,7 @@ unfolding Any.core
 returns c =
     let read = c .before .before in
     let args = read .before .before .before .before .before .args in
-    let e2 = read .remainders .ensures ∙ ap remainders (read .before .noisy .ensures) in
+    let e2 = read .remainders .ensures ∙ ap remainders (read .before .phase .ensures) in
     c .judge .ensures
     ∙ ap (λ (t : Triple). answer (judged (tripleOf (args .dummy)) t))
     (c .before .recover .ensures
@@ -39,4 +39,4 @@ returns c =
 
 pub core-spec : {M : Type 1} → statement M
 core-spec =
-    tie.close (tie.spec noisy-requires remainders-requires recover-requires judge-requires returns)
+    tie.close (tie.spec phase-requires remainders-requires recover-requires judge-requires returns)

@@ -6,11 +6,11 @@ use Rattle.derivation.specs.Derivation.{genuine?, verifiedEntry}
 use Rattle.records.specs.declared.Refusal.the-variants.{DecapsulationFailure, TagMismatch}
 use Rattle.records.specs.declared.Answer.the-variants.{Done}
 use Rattle.records.specs.Answers.{unless, andThen}
-use Rattle.opening.specs.Parts.{asTriple, outcomeBy}
-use Rattle.opening.proofs.Laws.{found-answer, found-triple, verified-answer}
+use Rattle.recovery.specs.Outcomes.{asTriple, outcomeBy}
+use Rattle.recovery.proofs.Laws.{found-answer, found-triple, verified-answer}
 use borrow.Author.Needs.{needs}
-use Rattle.opening.proofs.recover_entry.Statement.{statement}
-use Rattle.opening.proofs.recover_entry.Tie as tie
+use Rattle.recovery.proofs.recover_entry.Statement.{statement}
+use Rattle.recovery.proofs.recover_entry.Tie as tie
 
 front-answer-requires : tie.Need-front-answer-requires
 front-answer-requires c κs = search needs

@@ -2,12 +2,12 @@ use mathlib.Core.Path.{_≡_, ap, _∙_}
 use lib.ListN.{length}
 use Rattle.ntt.specs.Spectrum.{coefficientsOf}
 use Rattle.ring.specs.Ring.{difference}
-use Rattle.scheme.proofs.Steps.{noisy-by-spectra}
+use Rattle.scheme.proofs.Steps.{phase-by-spectra}
 use borrow.Author.Needs.{needs}
-use Rattle.scheme.proofs.noisy.Statement.{statement}
-use Rattle.scheme.proofs.noisy.Tie as tie
-use Rattle.scheme.proofs.noisy.Reads as reads
-use Rattle.scheme.proofs.noisy.Lts as lts
+use Rattle.scheme.proofs.phase.Statement.{statement}
+use Rattle.scheme.proofs.phase.Tie as tie
+use Rattle.scheme.proofs.phase.Reads as reads
+use Rattle.scheme.proofs.phase.Lts as lts
 use Rattle.ntt.proofs.backward.Reads as backward-reads
 use Rattle.ring.proofs.difference.Reads as difference-reads
 use Rattle.ring.proofs.multiple.Reads as multiple-reads
@@ -29,7 +29,7 @@ returns c =
     let hp : length (args .product) ≡ 1024 = search (needs, start .good .1 .0) in
     c .backward .ensures
     ∙ ap coefficientsOf (c .before .difference .ensures ∙ ap (difference (args .second)) (c .before .before .multiple .ensures))
-    ∙ noisy-by-spectra (args .second) (args .product) hv hp
+    ∙ phase-by-spectra (args .second) (args .product) hv hp
 
-pub noisy-spec : {M : Type 1} → statement M
-noisy-spec = tie.close (tie.spec multiple-requires difference-requires backward-requires returns)
+pub phase-spec : {M : Type 1} → statement M
+phase-spec = tie.close (tie.spec multiple-requires difference-requires backward-requires returns)

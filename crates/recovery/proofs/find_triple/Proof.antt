@@ -3,11 +3,11 @@ use Rattle.scheme.specs.declared.Decapsulation.{Decapsulation}
 use Rattle.records.specs.declared.Refusal.the-variants.{DecapsulationFailure}
 use Rattle.records.specs.declared.Answer.the-variants.{Done}
 use Rattle.records.specs.Answers.{unless, andThen}
-use Rattle.opening.specs.Parts.{asTriple, outcomeBy}
-use Rattle.opening.proofs.Laws.{found-answer, found-triple}
+use Rattle.recovery.specs.Outcomes.{asTriple, outcomeBy}
+use Rattle.recovery.proofs.Laws.{found-answer, found-triple}
 use borrow.Author.Needs.{needs}
-use Rattle.opening.proofs.find_triple.Statement.{statement}
-use Rattle.opening.proofs.find_triple.Tie as tie
+use Rattle.recovery.proofs.find_triple.Statement.{statement}
+use Rattle.recovery.proofs.find_triple.Tie as tie
 
 front-answer-requires : tie.Need-front-answer-requires
 front-answer-requires c κs = search needs

@@ -1,0 +1,2 @@
+-- Openings of what was read.
+pub mod Outcomes

@@ -1,0 +1,43 @@
+-- What an opening answers and gives by a key, an encapsulation or a sealed entry, and a dummy that were read.
+use mathlib.Core.List.{List}
+use Prim.Native.Nat.{ℕ}
+use Rattle.lists.specs.Table.{zeros}
+use Rattle.ntt.specs.Spectrum.{coefficientsOf}
+use Rattle.ring.specs.Ring.{n}
+use Rattle.scheme.specs.Scheme.{Triple, Outcome, found, failed, decapsulation}
+use Rattle.scheme.specs.Answers as Struct
+use Rattle.scheme.specs.declared.Triple as Declared
+use Rattle.derivation.specs.Derivation.{verifiedEntry}
+use Rattle.records.specs.declared.Answer.{Answer}
+use Rattle.records.specs.declared.Elements.{Elements}
+use Rattle.records.specs.Answers.{andThen}
+use Rattle.keys.specs.declared.SecretKey.{SecretKey}
+use Rattle.calls.specs.Calls.{outcomeAnswer, openedAnswer}
+
+abbrev pub asTriple : Declared.Triple → Triple
+asTriple t = Struct.tripleOf t
+
+-- the triple of an outcome; zeros where there is none
+abbrev pub answered : Outcome → Triple
+answered (found t) = t
+answered failed = record { r = zeros n; e1 = zeros n; e2 = zeros n }
+
+-- ---- by a key that was read, of a front that was read
+
+-- what is found; key and inverse are given by their spectra
+abbrev pub outcomeBy : (key : SecretKey) (inverse : List ℕ) (dummy : Declared.Triple) (read : Elements) → Outcome
+outcomeBy key inverse dummy read =
+    decapsulation (coefficientsOf (key .a)) (coefficientsOf (key .b)) (coefficientsOf inverse)
+    (coefficientsOf (key .s)) (asTriple dummy) (read .first) (read .second)
+
+-- 9 behind the answers to key, encapsulation and dummy
+abbrev pub decapsulatedBy : (key encapsulation dummy : Answer) (o : Outcome) → Answer
+decapsulatedBy key encapsulation dummy o = andThen key (andThen encapsulation (andThen dummy (outcomeAnswer o)))
+
+-- 9 and 10 behind the answers to key and sealed entry
+abbrev pub openedBy : (key sealed : Answer) (o : Outcome) (body tag : List ℕ) → Answer
+openedBy key sealed o body tag = andThen key (andThen sealed (openedAnswer o body tag))
+
+-- the entry where a triple was found and the tag is right; what zeros give where none was found
+abbrev pub verifiedBy : (o : Outcome) (body tag : List ℕ) → List ℕ
+verifiedBy o body tag = verifiedEntry (answered o .r) (answered o .e1) (answered o .e2) body tag

@@ -1,0 +1,119 @@
+// Openings of what was read: a secret key, from whatever source, an encapsulation or a sealed entry, and a dummy. Every answer is worked
+// out before they are joined in document 01's order; beside a refusal stand zeros.
+use keys::SecretKey;
+use ntt::Spectrum;
+use records::Answer;
+use records::BLOCK_LENGTH;
+use records::Elements;
+use records::Refusal;
+use records::SealedEntry;
+use scheme::Encapsulation;
+use scheme::Triple;
+ghost use mathlib.Core.Path.{_≡_};
+ghost use Rattle.ntt.specs.Factors.{forwardFactors, backwardFactors};
+ghost use Rattle.records.specs.Read.{frontOf};
+ghost use Rattle.recovery.specs.Outcomes.{asTriple, answered, outcomeBy, decapsulatedBy, openedBy, verifiedBy};
+
+// ---- an encapsulation
+
+// What is answered, and the triple that is written under Done.
+pub struct Decapsulated {
+    pub answer: Answer,
+    pub triple: Triple,
+}
+
+// By a key that was read, the spectrum of the inverse of its b, an encapsulation and a dummy; `codes` is what the dummy's codes are answered by.
+pub fn find_triple(
+    key: SecretKey,
+    inverse: Spectrum,
+    c: Elements,
+    codes: Answer,
+    dummy: Triple,
+    forward: &[u16],
+    backward: &[u16],
+) -> Decapsulated
+    requires { ⌜ (now forward ≡ forwardFactors) × (now backward ≡ backwardFactors) ⌝ }
+    ensures { λ d. ⌜ d .answer ≡ decapsulatedBy (key .answer) (frontOf c) codes (outcomeBy key inverse dummy c) ⌝ }
+    ensures { λ d. ⌜ asTriple (d .triple) ≡ answered (outcomeBy key inverse dummy c) ⌝ }
+{
+    let checked = key.answer;
+    let a = key.a;
+    let b = key.b;
+    let s = key.s;
+    let words = records::front_answer(c);
+    let c1 = c.first;
+    let c2 = c.second;
+    let d = scheme::decapsulate(
+        a,
+        b,
+        s,
+        inverse,
+        dummy,
+        Encapsulation { c1, c2 },
+        forward,
+        backward,
+    );
+    let triple = d.triple;
+    let found = records::unless(d.found, Refusal::DecapsulationFailure);
+    let opening = records::and_then(words, records::and_then(codes, found));
+    Decapsulated {
+        answer: records::and_then(checked, opening),
+        triple,
+    }
+}
+
+// ---- a sealed entry
+
+// What is answered, and the entry that is written under Done.
+pub struct Opened {
+    pub answer: Answer,
+    pub entry: [u8; BLOCK_LENGTH],
+}
+
+// By a key that was read, the spectrum of the inverse of its b, a sealed entry and a dummy.
+pub fn recover_entry(
+    key: SecretKey,
+    inverse: Spectrum,
+    sealed: SealedEntry,
+    dummy: Triple,
+    forward: &[u16],
+    backward: &[u16],
+) -> Opened
+    requires { ⌜ (now forward ≡ forwardFactors) × (now backward ≡ backwardFactors) ⌝ }
+    ensures { λ o. ⌜ o .answer ≡ openedBy (key .answer) (frontOf (sealed .front)) (outcomeBy key inverse dummy (sealed .front)) (sealed .body) (sealed .tag) ⌝ }
+    ensures { λ o. ⌜ o .entry ≡ verifiedBy (outcomeBy key inverse dummy (sealed .front)) (sealed .body) (sealed .tag) ⌝ }
+{
+    let checked = key.answer;
+    let a = key.a;
+    let b = key.b;
+    let s = key.s;
+    let front = sealed.front;
+    let record = records::front_answer(front);
+    let c1 = front.first;
+    let c2 = front.second;
+    let body = sealed.body;
+    let tag = sealed.tag;
+    let d = scheme::decapsulate(
+        a,
+        b,
+        s,
+        inverse,
+        dummy,
+        Encapsulation { c1, c2 },
+        forward,
+        backward,
+    );
+    let found = records::unless(d.found, Refusal::DecapsulationFailure);
+    let t = d.triple;
+    let r = t.r;
+    let e1 = t.e1;
+    let e2 = t.e2;
+    let v = derivation::verify(r, e1, e2, body, tag);
+    let genuine = records::unless(v.genuine, Refusal::TagMismatch);
+    let entry = v.entry;
+    let rest = records::and_then(record, records::and_then(found, genuine));
+    Opened {
+        answer: records::and_then(checked, rest),
+        entry,
+    }
+}
