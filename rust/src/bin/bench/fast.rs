@@ -519,16 +519,16 @@ fn capsule(a: &Element, b: &Element, triple: &[Element; 3], w: &Factors, v: &Fac
     [sum(&backward_product(a, &r, v), &triple[1]), sum(&backward_product(b, &r, v), &triple[2])]
 }
 
-/// Three more transforms forward and five back, after the key check's three and one.
+/// Four more transforms forward and three back, after the key check's three and one: the sums of step 1 are kept as spectra.
 fn opened(key: &SecretKey, c1: &Element, c2: &Element, dummy: &[Element; 3], w: &Factors, v: &Factors) -> Option<[Element; 3]> {
-    let [d1, d2] = capsule(&key.a, &key.b, dummy, w, v);
-    let (first, second) = (sum(c1, &d1), sum(c2, &d2));
-    let first_s = backward_product(&forward(&first, w), &key.s, v);
-    let m = difference(&second, &multiple(to_montgomery(5), &first_s));
+    let dummy_r = forward(&dummy[0], w);
+    let first = sum(&pointwise(&key.a, &dummy_r), &forward(&sum(c1, &dummy[1]), w));
+    let second = sum(&pointwise(&key.b, &dummy_r), &forward(&sum(c2, &dummy[2]), w));
+    let m = backward(&difference(&second, &multiple(to_montgomery(5), &pointwise(&first, &key.s))), v);
     let e2 = remainders(&m);
-    let spectrum_r = pointwise(&forward(&difference(&second, &e2), w), &reciprocals(&key.b));
+    let spectrum_r = pointwise(&difference(&second, &forward(&e2, w)), &reciprocals(&key.b));
     let r = backward(&spectrum_r, v);
-    let e1 = difference(&first, &backward_product(&key.a, &spectrum_r, v));
+    let e1 = backward(&difference(&first, &pointwise(&key.a, &spectrum_r)), v);
     let near = within(2, &r) & within(2, &e1);
     let answer = [difference(&r, &dummy[0]), difference(&e1, &dummy[1]), difference(&e2, &dummy[2])];
     let ternary = within(1, &answer[0]) & within(1, &answer[1]) & within(1, &answer[2]);

@@ -209,10 +209,10 @@ fn parts(records: &Records) {
     alone("both tables of factors (once a call)", &mut || {
         black_box((fast::forward_factors(), fast::backward_factors()));
     });
-    alone("transform forward (seal 3, open 6)", &mut || {
+    alone("transform forward (seal 3, open 7)", &mut || {
         black_box(fast::forward(black_box(&a), &w));
     });
-    alone("transform backward (seal 2, open 6)", &mut || {
+    alone("transform backward (seal 2, open 4)", &mut || {
         black_box(fast::backward(black_box(&a), &v));
     });
     alone("product of spectra (seal 2, open 6)", &mut || {
