@@ -1,12 +1,15 @@
 -- Laws of `putFront`, and of a buffer that is written part by part.
-use mathlib.Core.Path.{_≡_, refl, sym, ap, _∙_}
-use mathlib.Core.List.{List, [], _++_, append-assoc, append-nil}
-use Prim.Native.Nat.{ℕ, _+_, _<_, _≤_}
-use native.Mathlib.Nat.{zero-add}
+use mathlib.Core.Path.{_≡_, refl, sym, ap, subst, _∙_}
+use mathlib.Core.List.{List, [], _∷_, _++_, append-assoc, append-nil}
+use Prim.Native.Nat.{ℕ, suc, _+_, _<_, _≤_}
+use native.Mathlib.Nat.{zero-add, add-zero}
+use native.Mathlib.Numerals.{add-one}
 use native.Mathlib.Omega.{arith}
-use lib.ListN.{length, take, drop, length-drop, drop-of-length-le}
-use lib.Seq.{take-at, drop-at, drop-drop, length-take-le}
+use lib.ListN.{length, getD, take, drop, set, length-set, length-drop, drop-of-length-le}
+use lib.Seq.{take-at, drop-at, drop-drop, drop-cons, set-at, append-snoc, length-take-le}
 use borrow.Author.Tests.{le-leb, lt-leb}
+use Rattle.lists.specs.Table.{table}
+use Rattle.lists.proofs.Tables.{length-table, table-append, table-zero, table-cons}
 use Rattle.encoding.specs.Buffers.{putFront}
 
 -- there is room
@@ -55,3 +58,36 @@ put-first new old k l h p = put-part [] new old old 0 k refl refl l (zero-add k)
 -- all of it is written
 pub put-all : (front old : List ℕ) (k : ℕ) → length old ≤ k → front ++ drop k old ≡ front
 put-all front old k h = rw (drop-of-length-le old h) (append-nil front)
+
+-- ---- entry by entry: g 0, .., g (i - 1) of m numbers to write stand at the front, and the rest is as it came
+
+pub record Put (m : ℕ) (g : ℕ → ℕ) (old out : List ℕ) (i : ℕ) : Type 0 where
+  pub within : i ≤ m
+  pub room : m ≤ length old
+  pub size : length out ≡ length old
+  pub same : out ≡ table i g ++ drop i old
+
+pub put-none : (m : ℕ) (g : ℕ → ℕ) (old : List ℕ) → m ≤ length old → Put m g old old 0
+put-none m g old h = record { within = omega arith; room = h; size = refl; same = rw (table-zero g) }
+
+-- the next number is written, and e numbers are
+pub put-next : {m : ℕ} {g : ℕ → ℕ} {old out : List ℕ} {i v e : ℕ} → Put m g old out i → i < m → v ≡ g i → i + 1 ≡ e → Put m g old (set out i v) e
+put-next {m} {g} {old} {out} {i} {v} p h r e =
+    let there : i < length old = omega (arith, p .room) in
+    let front : length (table i g) ≡ i = length-table i g in
+    let one : table (i + 1) g ≡ table i g ++ (g i ∷ []) = rw (table-append i 1 g, table-cons 0 (λ j. g (i + j)), table-zero, add-zero) in
+    subst (Put m g old (set out i v)) e (record {
+      within = omega arith;
+      room = p .room;
+      size = length-set out i v ∙ p .size;
+      same =
+          rw (p .same, drop-cons old i 0 there, set-at (table i g) (getD old i 0) (drop (suc i) old) v i front, r, one, add-one)
+          (sym (append-snoc (table i g) (g i) (drop (suc i) old)));
+    })
+
+-- all numbers are written
+pub put-done : {m : ℕ} {g : ℕ → ℕ} {old out : List ℕ} {i : ℕ} → Put m g old out i → m ≤ i → out ≡ putFront (table m g) old
+put-done {m} {g} {old} {out} {i} p h =
+    let all : i ≡ m = omega (arith, p .within) in
+    let size : length (table m g) ≡ m = length-table m g in
+    p .same ∙ rw all (sym (put-fits (table m g) old (omega (arith, p .room)) ∙ rw size))

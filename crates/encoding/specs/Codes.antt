@@ -33,13 +33,13 @@ firstInvalidCode bytes = firstFailing (λ code. ltb code 3) (codesOf bytes)
 unfoldable pub ternaryOf : List ℕ → List ℕ
 ternaryOf bytes = table n (λ k. coefficientOf (codeAt bytes k))
 
--- four codes a byte
+-- the byte of four coefficients
+abbrev pub packedOf : (c0 c1 c2 c3 : ℕ) → ℕ
+packedOf c0 c1 c2 c3 = codeOf c0 + 4 * codeOf c1 + 16 * codeOf c2 + 64 * codeOf c3
+
+-- byte i of a ternary polynomial
 abbrev pub packedAt : List ℕ → ℕ → ℕ
-packedAt t i =
-    codeOf (getD t (4 * i) 0)
-    + 4 * codeOf (getD t (4 * i + 1) 0)
-    + 16 * codeOf (getD t (4 * i + 2) 0)
-    + 64 * codeOf (getD t (4 * i + 3) 0)
+packedAt t i = packedOf (getD t (4 * i) 0) (getD t (4 * i + 1) 0) (getD t (4 * i + 2) 0) (getD t (4 * i + 3) 0)
 
 -- how many bytes a ternary polynomial has
 abbrev pub ternaryLength : ℕ

@@ -6,9 +6,9 @@ use ntt::DEGREE;
 use ntt::Element;
 ghost use mathlib.Core.Path.{_≡_};
 ghost use Prim.Native.Nat.{_+_, _*_, _<_, min};
-ghost use lib.ListN.{length, getD};
-ghost use Rattle.encoding.specs.Words.{elementLength, elementOf, firstUnreduced, elementBytes};
-ghost use Rattle.encoding.specs.Codes.{ternaryLength, coefficientOf, codeOf, ternaryOf, firstInvalidCode, ternaryBytes};
+ghost use lib.ListN.{getD};
+ghost use Rattle.encoding.specs.Words.{elementOf, firstUnreduced, elementBytes};
+ghost use Rattle.encoding.specs.Codes.{coefficientOf, codeOf, packedOf, ternaryOf, firstInvalidCode, ternaryBytes};
 ghost use Rattle.encoding.specs.Header.{hasMark, versionOf, header};
 ghost use Rattle.encoding.specs.Buffers.{putFront};
 
@@ -71,23 +71,16 @@ pub fn first_unreduced(a: Element) -> usize
     DEGREE
 }
 
-fn put_element(a: Element, out: &mut [u8])
-    requires { ⌜ length (now out) ≡ elementLength ⌝ }
-    ensures { λ _. ⌜ now (out .exit) ≡ elementBytes a ⌝ }
-{
-    for k in 0..DEGREE {
-        let w = a[k];
-        out[2 * k] = (w % 256) as u8;
-        out[2 * k + 1] = (w / 256) as u8;
-    }
-}
-
 // Writes the 2,048 bytes of the words.
 pub fn encode_element(a: Element, out: &mut [u8])
     ensures { λ _. ⌜ now (out .exit) ≡ putFront (elementBytes a) (now (out .entry)) ⌝ }
 {
     if out.len() >= ELEMENT_LENGTH {
-        put_element(a, &mut out[..ELEMENT_LENGTH]);
+        for k in 0..DEGREE {
+            let w = a[k];
+            out[2 * k] = (w % 256) as u8;
+            out[2 * k + 1] = (w / 256) as u8;
+        }
     }
 }
 
@@ -108,10 +101,11 @@ pub fn decode_ternary(bytes: &[u8]) -> Element
     let count = lesser(bytes.len(), TERNARY_LENGTH);
     for i in 0..count {
         let b = bytes[i];
-        t[4 * i] = coefficient(b % 4);
-        t[4 * i + 1] = coefficient(b / 4 % 4);
-        t[4 * i + 2] = coefficient(b / 16 % 4);
-        t[4 * i + 3] = coefficient(b / 64);
+        let k = 4 * i;
+        t[k] = coefficient(b % 4);
+        t[k + 1] = coefficient(b / 4 % 4);
+        t[k + 2] = coefficient(b / 16 % 4);
+        t[k + 3] = coefficient(b / 64);
     }
     t
 }
@@ -123,17 +117,18 @@ pub fn first_invalid_code(bytes: &[u8]) -> usize
     let count = lesser(bytes.len(), TERNARY_LENGTH);
     for i in 0..count {
         let b = bytes[i];
+        let k = 4 * i;
         if b % 4 == 3 {
-            return 4 * i;
+            return k;
         }
         if b / 4 % 4 == 3 {
-            return 4 * i + 1;
+            return k + 1;
         }
         if b / 16 % 4 == 3 {
-            return 4 * i + 2;
+            return k + 2;
         }
         if b / 64 == 3 {
-            return 4 * i + 3;
+            return k + 3;
         }
     }
     DEGREE
@@ -146,17 +141,11 @@ fn code(c: u16) -> u8
     (c == 1) as u8 + 2 * ((c == MINUS_ONE) as u8)
 }
 
-fn put_ternary(t: Element, out: &mut [u8])
-    requires { ⌜ length (now out) ≡ ternaryLength ⌝ }
-    ensures { λ _. ⌜ now (out .exit) ≡ ternaryBytes t ⌝ }
+// The byte of four coefficients.
+fn packed(c0: u16, c1: u16, c2: u16, c3: u16) -> u8
+    ensures { λ r. ⌜ r ≡ packedOf c0 c1 c2 c3 ⌝ }
 {
-    for i in 0..TERNARY_LENGTH {
-        let c0 = code(t[4 * i]);
-        let c1 = code(t[4 * i + 1]);
-        let c2 = code(t[4 * i + 2]);
-        let c3 = code(t[4 * i + 3]);
-        out[i] = c0 + 4 * c1 + 16 * c2 + 64 * c3;
-    }
+    code(c0) + 4 * code(c1) + 16 * code(c2) + 64 * code(c3)
 }
 
 // Writes the 256 bytes of the coefficients' codes.
@@ -164,7 +153,10 @@ pub fn encode_ternary(t: Element, out: &mut [u8])
     ensures { λ _. ⌜ now (out .exit) ≡ putFront (ternaryBytes t) (now (out .entry)) ⌝ }
 {
     if out.len() >= TERNARY_LENGTH {
-        put_ternary(t, &mut out[..TERNARY_LENGTH]);
+        for i in 0..TERNARY_LENGTH {
+            let k = 4 * i;
+            out[i] = packed(t[k], t[k + 1], t[k + 2], t[k + 3]);
+        }
     }
 }
 

@@ -28,14 +28,14 @@ loop-holds c = zero-filled-start n _ _ _ (omega arith) refl
 shared-slice-read-b : tie.Need-shared-slice-read-b Inv-loop μ-loop
 shared-slice-read-b c = search needs
 
+mul-k : tie.Need-mul-k Inv-loop μ-loop
+mul-k c = search needs
+
 coefficient-requires : tie.Need-coefficient-requires Inv-loop μ-loop
 coefficient-requires c κs = search needs
 
 mul-t : tie.Need-mul-t Inv-loop μ-loop
 mul-t c = search needs
-
-mul-t-2 : tie.Need-mul-t-2 Inv-loop μ-loop
-mul-t-2 c = search needs
 
 array-write-t : tie.Need-array-write-t Inv-loop μ-loop
 array-write-t c = search needs
@@ -43,14 +43,11 @@ array-write-t c = search needs
 coefficient-requires-2 : tie.Need-coefficient-requires-2 Inv-loop μ-loop
 coefficient-requires-2 c κs = search needs
 
-mul-t-3 : tie.Need-mul-t-3 Inv-loop μ-loop
-mul-t-3 c = search needs
-
 add-t : tie.Need-add-t Inv-loop μ-loop
 add-t c = search needs
 
-mul-t-4 : tie.Need-mul-t-4 Inv-loop μ-loop
-mul-t-4 c = search needs
+mul-t-2 : tie.Need-mul-t-2 Inv-loop μ-loop
+mul-t-2 c = search needs
 
 array-write-t-2 : tie.Need-array-write-t-2 Inv-loop μ-loop
 array-write-t-2 c = search needs
@@ -58,14 +55,11 @@ array-write-t-2 c = search needs
 coefficient-requires-3 : tie.Need-coefficient-requires-3 Inv-loop μ-loop
 coefficient-requires-3 c κs = search needs
 
-mul-t-5 : tie.Need-mul-t-5 Inv-loop μ-loop
-mul-t-5 c = search needs
-
 add-t-2 : tie.Need-add-t-2 Inv-loop μ-loop
 add-t-2 c = search needs
 
-mul-t-6 : tie.Need-mul-t-6 Inv-loop μ-loop
-mul-t-6 c = search needs
+mul-t-3 : tie.Need-mul-t-3 Inv-loop μ-loop
+mul-t-3 c = search needs
 
 array-write-t-3 : tie.Need-array-write-t-3 Inv-loop μ-loop
 array-write-t-3 c = search needs
@@ -73,14 +67,11 @@ array-write-t-3 c = search needs
 coefficient-requires-4 : tie.Need-coefficient-requires-4 Inv-loop μ-loop
 coefficient-requires-4 c κs = search needs
 
-mul-t-7 : tie.Need-mul-t-7 Inv-loop μ-loop
-mul-t-7 c = search needs
-
 add-t-3 : tie.Need-add-t-3 Inv-loop μ-loop
 add-t-3 c = search needs
 
-mul-t-8 : tie.Need-mul-t-8 Inv-loop μ-loop
-mul-t-8 c = search needs
+mul-t-4 : tie.Need-mul-t-4 Inv-loop μ-loop
+mul-t-4 c = search needs
 
 array-write-t-4 : tie.Need-array-write-t-4 Inv-loop μ-loop
 array-write-t-4 c = search needs
@@ -123,24 +114,21 @@ decode-ternary-spec =
     lesser-requires
     loop-holds
     shared-slice-read-b
+    mul-k
     coefficient-requires
     mul-t
-    mul-t-2
     array-write-t
     coefficient-requires-2
-    mul-t-3
     add-t
-    mul-t-4
+    mul-t-2
     array-write-t-2
     coefficient-requires-3
-    mul-t-5
     add-t-2
-    mul-t-6
+    mul-t-3
     array-write-t-3
     coefficient-requires-4
-    mul-t-7
     add-t-3
-    mul-t-8
+    mul-t-4
     array-write-t-4
     add-i
     loop-less

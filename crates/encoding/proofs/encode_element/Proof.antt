@@ -1,40 +1,99 @@
-use mathlib.Core.Path.{sym}
+use mathlib.Core.Path.{_≡_, refl, sym, _∙_}
+use Prim.Native.Nat.{_+_, _-_, _*_, _/_}
 use native.Mathlib.Omega.{arith}
-use lib.Seq.{length-take-le}
-use denote.Ref.{now}
+use lib.ListN.{getD, length-set}
+use mir.Syntax.{w16}
+use mir.Val.{Fits}
+use Rattle.encoding.specs.Digits.{digitAt}
+use Rattle.encoding.specs.Words.{elementBytes}
+use Rattle.encoding.proofs.Digits.{digit-first, digit-in}
 use Rattle.encoding.proofs.Words.{length-elementBytes}
-use Rattle.encoding.proofs.Buffers.{put-front, put-short}
+use Rattle.encoding.proofs.Buffers.{Put, put-none, put-next, put-done, put-short}
 use borrow.Author.Needs.{needs}
 use Rattle.encoding.proofs.encode_element.Statement.{statement}
 use Rattle.encoding.proofs.encode_element.Tie as tie
 
-slice-relend-prefix-put-element : tie.Need-slice-relend-prefix-put-element
-slice-relend-prefix-put-element c = search needs
+abbrev Inv-loop : tie.InvT-loop
+Inv-loop out₀ a k₀ out k = Put 2048 (digitAt 256 2 a) out₀ out (2 * k)
 
-slice-aggregate-put-element : tie.Need-slice-aggregate-put-element
-slice-aggregate-put-element c = sym (length-take-le 2048 (now (c .before .before .before .args .out)) (omega arith))
+abbrev μ-loop : tie.MeasureT-loop
+μ-loop out₀ a k₀ out k = 1024 - k
 
-put-element-requires : tie.Need-put-element-requires
-put-element-requires c κs = length-take-le 2048 (now (c .before .before .before .args .out)) (omega arith)
+loop-holds : tie.Need-loop-holds Inv-loop μ-loop
+loop-holds c = put-none 2048 _ _ (c .if1 .taken)
 
-same-length : tie.Need-same-length
-same-length c = search needs
+mul-w : tie.Need-mul-w Inv-loop μ-loop
+mul-w c = search needs
 
-returns : tie.Need-returns
-returns c =
-    let start = c .before .before .before .before .before .before in
-    put-front _ (now (start .args .out)) (length-elementBytes _) (omega arith) (c .before .before .put-element .ensures)
+array-read-w : tie.Need-array-read-w Inv-loop μ-loop
+array-read-w c = search needs
 
-returns-2 : tie.Need-returns-2
+cast-out : tie.Need-cast-out Inv-loop μ-loop
+cast-out c = search needs
+
+mul-out : tie.Need-mul-out Inv-loop μ-loop
+mul-out c = search needs
+
+slice-write-out : tie.Need-slice-write-out Inv-loop μ-loop
+slice-write-out c = omega (arith, c .before .loop .inv .size, c .before .loop .inv .room)
+
+cast-out-2 : tie.Need-cast-out-2 Inv-loop μ-loop
+cast-out-2 c =
+    let w : Fits w16 (getD (c .before .before .before .args .t1) (c .before .loop .k) 0) = search needs in
+    omega (arith, w .fits)
+
+mul-out-2 : tie.Need-mul-out-2 Inv-loop μ-loop
+mul-out-2 c = search needs
+
+add-out : tie.Need-add-out Inv-loop μ-loop
+add-out c = search needs
+
+slice-write-out-2 : tie.Need-slice-write-out-2 Inv-loop μ-loop
+slice-write-out-2 c = simp length-set (omega (arith, c .before .loop .inv .size, c .before .loop .inv .room))
+
+add-k : tie.Need-add-k Inv-loop μ-loop
+add-k c = search needs
+
+loop-less : tie.Need-loop-less Inv-loop μ-loop
+loop-less c = search needs
+
+loop-again : tie.Need-loop-again Inv-loop μ-loop
+loop-again c =
+    let a = c .before .before .before .args .t1 in
+    let k = c .before .loop .k in
+    let w : Fits w16 (getD a k 0) = search needs in
+    let high : getD a k 0 / 256 ≡ digitAt 256 2 a (2 * k + 1) = sym (digit-in 256 2 a k 1 (omega arith) ∙ omega (arith, w .fits)) in
+    put-next (put-next (c .before .loop .inv) (omega arith) (sym (digit-first 256 2 a k (omega arith))) refl) (omega arith) high (omega arith)
+
+same-length : tie.Need-same-length Inv-loop μ-loop
+same-length c = c .before .loop .inv .size
+
+returns : tie.Need-returns Inv-loop μ-loop
+unfolding elementBytes
+returns c = put-done (c .before .loop .inv) (omega arith)
+
+returns-2 : tie.Need-returns-2 Inv-loop μ-loop
 returns-2 c = sym (put-short _ _ (rw length-elementBytes (c .if1 .left)))
 
 pub encode-element-spec : {M : Type 1} → statement M
 encode-element-spec =
     tie.close
     (tie.spec
-    slice-relend-prefix-put-element
-    slice-aggregate-put-element
-    put-element-requires
+    Inv-loop
+    μ-loop
+    loop-holds
+    mul-w
+    array-read-w
+    cast-out
+    mul-out
+    slice-write-out
+    cast-out-2
+    mul-out-2
+    add-out
+    slice-write-out-2
+    add-k
+    loop-less
+    loop-again
     same-length
     returns
     returns-2)

@@ -27,8 +27,8 @@ loop-holds c = passed-none _ _
 shared-slice-read-b : tie.Need-shared-slice-read-b Inv-loop μ-loop
 shared-slice-read-b c = search needs
 
-mul-result : tie.Need-mul-result Inv-loop μ-loop
-mul-result c = search needs
+mul-k : tie.Need-mul-k Inv-loop μ-loop
+mul-k c = search needs
 
 -- the four codes of the byte
 module _ (c : tie.In-loop Inv-loop μ-loop) where
@@ -63,26 +63,17 @@ to-3 c = valid-more _ (to-2 (c .before)) (omega arith) (code-2 (c .before .befor
 returns : tie.Need-returns Inv-loop μ-loop
 returns c = valid-stop _ (c .before .before .before .loop .inv) (omega arith) (code-0 (c .before .before)) (c .if1 .taken)
 
-mul-result-2 : tie.Need-mul-result-2 Inv-loop μ-loop
-mul-result-2 c = search needs
-
 add-result : tie.Need-add-result Inv-loop μ-loop
 add-result c = search needs
 
 returns-2 : tie.Need-returns-2 Inv-loop μ-loop
 returns-2 c = valid-stop _ (to-1 (c .before)) (omega arith) (code-1 (c .before .before .before)) (c .if2 .taken)
 
-mul-result-3 : tie.Need-mul-result-3 Inv-loop μ-loop
-mul-result-3 c = search needs
-
 add-result-2 : tie.Need-add-result-2 Inv-loop μ-loop
 add-result-2 c = search needs
 
 returns-3 : tie.Need-returns-3 Inv-loop μ-loop
 returns-3 c = valid-stop _ (to-2 (c .before)) (omega arith) (code-2 (c .before .before .before .before)) (c .if3 .taken)
-
-mul-result-4 : tie.Need-mul-result-4 Inv-loop μ-loop
-mul-result-4 c = search needs
 
 add-result-3 : tie.Need-add-result-3 Inv-loop μ-loop
 add-result-3 c = search needs
@@ -111,15 +102,12 @@ first-invalid-code-spec =
     lesser-requires
     loop-holds
     shared-slice-read-b
-    mul-result
+    mul-k
     returns
-    mul-result-2
     add-result
     returns-2
-    mul-result-3
     add-result-2
     returns-3
-    mul-result-4
     add-result-3
     returns-4
     add-i
