@@ -1,70 +1,75 @@
 -- Decoders and encoders undo each other.
 use mathlib.Core.Path.{_≡_, sym, ap, ap₂, _∙_}
-use mathlib.Core.List.{List, _++_}
-use Prim.Native.Nat.{ℕ, _+_, _*_, _/_, _%_, _<_}
-use native.Mathlib.Nat.{lt-trans}
+use mathlib.Core.List.{List, [], _∷_, _++_}
+use Prim.Native.Nat.{ℕ, _+_, _*_, _/_, _%_, _<_, _≤_}
 use native.Mathlib.Decide.{decLt}
 use native.Mathlib.Omega.{arith}
 use lib.ListN.{length, getD}
 use Rattle.lists.proofs.Tables.{table-is}
 use Rattle.algebra.specs.Numbers.{Below}
-use Rattle.algebra.proofs.Numbers.{below-at, below-by}
-use Rattle.modq.proofs.Prime.{q-positive}
+use Rattle.algebra.specs.Numbers as N
+use Rattle.algebra.proofs.Numbers.{below-at}
 use Rattle.ring.specs.Ring.{q, n, Element}
 use Rattle.ring.specs.Centred.{Ternary}
 use Rattle.ring.proofs.Ternaries.{ternary-entry}
 use Rattle.encoding.specs.Digits.{digitAt}
-use Rattle.encoding.specs.Words.{wordAt, words, elementOf, elementBytes}
+use Rattle.encoding.specs.Words.{wordAt, words, wordsTo, bytesOf, elementOf, elementBytes}
 use Rattle.encoding.specs.Codes.{codeAt, coefficientOf, codeOf, ternaryOf, firstInvalidCode, packedAt, ternaryBytes}
 use Rattle.encoding.proofs.Digits.{digit-first, digit-in}
-use Rattle.encoding.proofs.Words.{words-entry, elementOf-entry, elementOf-append, length-elementBytes, elementBytes-entry}
+use Rattle.encoding.proofs.Words.{words-entry, wordsTo-entry, wordsTo-append, length-bytesOf, bytesOf-entry}
 use Rattle.encoding.proofs.Codes.{code-coefficient, coefficient-code, none-invalid, ternaryOf-entry, ternaryOf-append, length-ternaryBytes, ternaryBytes-code}
 
--- ---- elements
+-- numbers below q are below any bound of q
+below-most : (q m : ℕ) → q ≤ m → (a : List ℕ) → Below q a → Below m a
+below-most q m h [] b = tt
+below-most q m h (x ∷ a) b = (omega (arith, b .0), below-most q m h a (b .1))
 
-word-bytes : (a : List ℕ) (k : ℕ) → k < n → getD a k 0 < 65536 → wordAt (elementBytes a) k ≡ getD a k 0
-word-bytes a k h l =
-    ap₂ (λ (x y : ℕ). x + 256 * y)
-    (elementBytes-entry a (2 * k) (omega arith) ∙ digit-first 256 2 a k (omega arith))
-    (elementBytes-entry a (2 * k + 1) (omega arith) ∙ digit-in 256 2 a k 1 (omega arith))
-    ∙ omega arith
+-- ---- n words
 
--- 1,024 words of 16 bits
-pub elementOf-bytes : (a : List ℕ) → length a ≡ n → Below 65536 a → elementOf (elementBytes a) ≡ a
-unfolding elementOf
-elementOf-bytes a size below = sym (table-is n _ a 0 size (λ k h. sym (entry k h)))
-  where
-    entry : (k : ℕ) → k < n → getD (words (elementBytes a)) k 0 ≡ getD a k 0
-    entry k h =
-        words-entry (elementBytes a) k (omega (arith, length-elementBytes a))
-        ∙ word-bytes a k h (below-at 65536 (omega arith) a below k)
+module _ (n : ℕ) where
+  word-bytes : (a : List ℕ) (k : ℕ) → k < n → getD a k 0 < 65536 → wordAt (bytesOf n a) k ≡ getD a k 0
+  word-bytes a k h l =
+      ap₂ (λ (x y : ℕ). x + 256 * y)
+      (bytesOf-entry n a (2 * k) (omega arith) ∙ digit-first 256 2 a k (omega arith))
+      (bytesOf-entry n a (2 * k + 1) (omega arith) ∙ digit-in 256 2 a k 1 (omega arith))
+      ∙ omega arith
 
--- 2,048 bytes
-pub bytes-elementOf : (bytes : List ℕ) → length bytes ≡ 2048 → Below 256 bytes → elementBytes (elementOf bytes) ≡ bytes
-unfolding elementBytes
-bytes-elementOf bytes size below = sym (table-is 2048 _ bytes 0 size (λ i h. sym (entry i h (decLt (i % 2) 1))))
-  where
-    word : (i : ℕ) → i < 2048 → getD (elementOf bytes) (i / 2) 0 ≡ wordAt bytes (i / 2)
-    word i h = elementOf-entry bytes (i / 2) (omega arith) ∙ words-entry bytes (i / 2) (omega arith)
+  -- words of 16 bits
+  pub wordsTo-bytes : (a : List ℕ) → length a ≡ n → Below 65536 a → wordsTo n (bytesOf n a) ≡ a
+  unfolding wordsTo
+  wordsTo-bytes a size below = sym (table-is n _ a 0 size (λ k h. sym (entry k h)))
+    where
+      entry : (k : ℕ) → k < n → getD (words (bytesOf n a)) k 0 ≡ getD a k 0
+      entry k h =
+          words-entry (bytesOf n a) k (omega (arith, length-bytesOf n a))
+          ∙ word-bytes a k h (below-at 65536 (omega arith) a below k)
 
-    byte : (i : ℕ) → getD bytes i 0 < 256
-    byte i = below-at 256 (omega arith) bytes below i
+  -- 2 n bytes
+  pub bytes-wordsTo : (bytes : List ℕ) → length bytes ≡ 2 * n → Below 256 bytes → bytesOf n (wordsTo n bytes) ≡ bytes
+  unfolding bytesOf
+  bytes-wordsTo bytes size below = sym (table-is (2 * n) _ bytes 0 size (λ i h. sym (entry i h (decLt (i % 2) 1))))
+    where
+      word : (i : ℕ) → i < 2 * n → getD (wordsTo n bytes) (i / 2) 0 ≡ wordAt bytes (i / 2)
+      word i h = wordsTo-entry n bytes (i / 2) (omega arith) ∙ words-entry bytes (i / 2) (omega arith)
 
-    entry : (i : ℕ) → i < 2048 → Dec (i % 2 < 1) → digitAt 256 2 (elementOf bytes) i ≡ getD bytes i 0
-    entry i h (yes l) =
-        let even : i % 2 ≡ 0 = omega arith in
-        let at : 2 * (i / 2) ≡ i = omega arith in
-        rw (even, word i h) (omega (arith, byte (2 * (i / 2)))) ∙ ap (λ (m : ℕ). getD bytes m 0) at
-    entry i h (no l) =
-        let odd : i % 2 ≡ 1 = omega arith in
-        let at : 2 * (i / 2) + 1 ≡ i = omega arith in
-        rw (odd, word i h) (omega (arith, byte (2 * (i / 2)), byte (2 * (i / 2) + 1))) ∙ ap (λ (m : ℕ). getD bytes m 0) at
+      byte : (i : ℕ) → getD bytes i 0 < 256
+      byte i = below-at 256 (omega arith) bytes below i
 
--- what a record reader finds where an element was written
-pub elementOf-written : (a rest : List ℕ) → Element a → elementOf (elementBytes a ++ rest) ≡ a
-elementOf-written a rest e =
-    elementOf-append (elementBytes a) rest (length-elementBytes a)
-    ∙ elementOf-bytes a (e .size) (below-by 65536 a (λ k h. lt-trans (below-at q q-positive a (e .below) k) (omega arith)))
+      entry : (i : ℕ) → i < 2 * n → Dec (i % 2 < 1) → digitAt 256 2 (wordsTo n bytes) i ≡ getD bytes i 0
+      entry i h (yes l) =
+          let even : i % 2 ≡ 0 = omega arith in
+          let at : 2 * (i / 2) ≡ i = omega arith in
+          rw (even, word i h) (omega (arith, byte (2 * (i / 2)))) ∙ ap (λ (m : ℕ). getD bytes m 0) at
+      entry i h (no l) =
+          let odd : i % 2 ≡ 1 = omega arith in
+          let at : 2 * (i / 2) + 1 ≡ i = omega arith in
+          rw (odd, word i h) (omega (arith, byte (2 * (i / 2)), byte (2 * (i / 2) + 1))) ∙ ap (λ (m : ℕ). getD bytes m 0) at
+
+  -- what a record reader finds where an element modulo q was written
+  pub words-written : (q : ℕ) → q ≤ 65536 → (a rest : List ℕ) → N.Element q n a → wordsTo n (bytesOf n a ++ rest) ≡ a
+  words-written q fits a rest e =
+      wordsTo-append n (bytesOf n a) rest (length-bytesOf n a)
+      ∙ wordsTo-bytes a (e .size) (below-most q 65536 fits a (e .below))
 
 -- ---- ternary polynomials
 
@@ -106,3 +111,14 @@ bytes-ternaryOf bytes size below valid = sym (table-is 256 _ bytes 0 size (λ i 
 
 pub ternaryOf-written : (t rest : List ℕ) → Ternary t → ternaryOf (ternaryBytes t ++ rest) ≡ t
 ternaryOf-written t rest e = ternaryOf-append (ternaryBytes t) rest (length-ternaryBytes t) ∙ ternaryOf-bytes t e
+
+-- ---- ring elements
+
+pub elementOf-bytes : (a : List ℕ) → length a ≡ n → Below 65536 a → elementOf (elementBytes a) ≡ a
+elementOf-bytes a size below = wordsTo-bytes n a size below
+
+pub bytes-elementOf : (bytes : List ℕ) → length bytes ≡ 2048 → Below 256 bytes → elementBytes (elementOf bytes) ≡ bytes
+bytes-elementOf bytes size below = bytes-wordsTo n bytes size below
+
+pub elementOf-written : (a rest : List ℕ) → Element a → elementOf (elementBytes a ++ rest) ≡ a
+elementOf-written a rest e = words-written n q (omega arith) a rest e

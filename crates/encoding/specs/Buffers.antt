@@ -6,5 +6,5 @@ use lib.Dec.{leb}
 use lib.ListN.{length, drop}
 
 -- `new` at the front of a buffer that held `old`, and the rest as it came; all as it came where the buffer is too short
-unfoldable pub putFront : List ℕ → List ℕ → List ℕ
+unfoldable pub putFront : (new old : List ℕ) → List ℕ
 putFront new old = cond (leb (length new) (length old)) (new ++ drop (length new) old) old

@@ -6,7 +6,7 @@ use denote.Ref.{now}
 use Rattle.lists.specs.Table.{table}
 use Rattle.lists.proofs.Fill.{ZeroFilled}
 use Rattle.ring.specs.Ring.{n}
-use Rattle.encoding.specs.Words.{words, elementOf}
+use Rattle.encoding.specs.Words.{words, wordsTo}
 use Rattle.lists.proofs.TableFill.{zero-filled-start, zero-filled-next, zero-filled-table}
 use Rattle.encoding.proofs.Words.{words-entry, words-missing}
 use borrow.Author.Needs.{needs}
@@ -64,7 +64,7 @@ loop-again c =
     (c .word .ensures ∙ sym (words-entry bytes (at .loop .k) h)) refl
 
 returns : tie.Need-returns Inv-loop μ-loop
-unfolding elementOf
+unfolding wordsTo
 returns c =
     let bytes = now (c .before .before .before .before .args .bytes) in
     zero-filled-table (λ k. getD (words bytes) k 0) (c .before .loop .inv) (c .loop-test .left) (omega arith)

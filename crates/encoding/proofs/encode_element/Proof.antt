@@ -5,7 +5,7 @@ use lib.ListN.{getD, length-set}
 use mir.Syntax.{w16}
 use mir.Val.{Fits}
 use Rattle.encoding.specs.Digits.{digitAt}
-use Rattle.encoding.specs.Words.{elementBytes}
+use Rattle.encoding.specs.Words.{bytesOf}
 use Rattle.encoding.proofs.Digits.{digit-first, digit-in}
 use Rattle.encoding.proofs.Words.{length-elementBytes}
 use Rattle.encoding.proofs.Buffers.{Put, put-none, put-next, put-done, put-short}
@@ -69,7 +69,7 @@ same-length : tie.Need-same-length Inv-loop μ-loop
 same-length c = c .before .loop .inv .size
 
 returns : tie.Need-returns Inv-loop μ-loop
-unfolding elementBytes
+unfolding bytesOf
 returns c = put-done (c .before .loop .inv) (omega arith)
 
 returns-2 : tie.Need-returns-2 Inv-loop μ-loop

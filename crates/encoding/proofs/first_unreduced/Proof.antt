@@ -6,7 +6,7 @@ use lib.ListN.{length}
 use borrow.Author.Tests.{lt-ltb, le-ltb}
 use Rattle.lists.proofs.Scan.{Passed, passed-none, passed-more, passed-stop, passed-all}
 use Rattle.ring.specs.Ring.{q, n}
-use Rattle.encoding.specs.Words.{firstUnreduced}
+use Rattle.encoding.specs.Words.{firstFrom}
 use borrow.Author.Needs.{needs}
 use Rattle.encoding.proofs.first_unreduced.Statement.{statement}
 use Rattle.encoding.proofs.first_unreduced.Tie as tie
@@ -27,7 +27,7 @@ array-read-if1 : tie.Need-array-read-if1 Inv-loop μ-loop
 array-read-if1 c = search needs
 
 returns : tie.Need-returns Inv-loop μ-loop
-unfolding firstUnreduced
+unfolding firstFrom
 returns c =
     let at = c .before .before in
     let size : length (at .before .args .t1) ≡ n = search needs in
@@ -46,7 +46,7 @@ loop-again c =
     passed-more (at .loop .inv) (omega arith) (lt-ltb _ q (c .if1 .left))
 
 returns-2 : tie.Need-returns-2 Inv-loop μ-loop
-unfolding firstUnreduced
+unfolding firstFrom
 returns-2 c =
     let at = c .before in
     let size : length (at .before .args .t1) ≡ n = search needs in
