@@ -14,10 +14,10 @@ use Rattle.ring.specs.Centred.{Ternary}
 use Rattle.ring.proofs.Ternaries.{ternary-entry}
 use Rattle.encoding.specs.Digits.{digitAt}
 use Rattle.encoding.specs.Words.{wordAt, words, wordsTo, bytesOf, elementOf, elementBytes}
-use Rattle.encoding.specs.Codes.{codeAt, coefficientOf, codeOf, ternaryOf, firstInvalidCode, packedAt, ternaryBytes}
+use Rattle.encoding.specs.Codes.{codeAt, coefficientOf, codeOf, firstInvalid, unpacked, packedAt, packed, firstInvalidCode, ternaryOf, ternaryBytes}
 use Rattle.encoding.proofs.Digits.{digit-first, digit-in}
 use Rattle.encoding.proofs.Words.{words-entry, wordsTo-entry, wordsTo-append, length-bytesOf, bytesOf-entry}
-use Rattle.encoding.proofs.Codes.{code-coefficient, coefficient-code, none-invalid, ternaryOf-entry, ternaryOf-append, length-ternaryBytes, ternaryBytes-code}
+use Rattle.encoding.proofs.Codes.{Trit, code-coefficient, coefficient-code, none-invalid, unpacked-entry, unpacked-append, packed-code, length-ternaryBytes}
 
 -- numbers below q are below any bound of q
 below-most : (q m : ℕ) → q ≤ m → (a : List ℕ) → Below q a → Below m a
@@ -71,14 +71,7 @@ module _ (n : ℕ) where
       wordsTo-append n (bytesOf n a) rest (length-bytesOf n a)
       ∙ wordsTo-bytes a (e .size) (below-most q 65536 fits a (e .below))
 
--- ---- ternary polynomials
-
-pub ternaryOf-bytes : (t : List ℕ) → Ternary t → ternaryOf (ternaryBytes t) ≡ t
-unfolding ternaryOf
-ternaryOf-bytes t e = sym (table-is n _ t 0 (e .0 .size) (λ k h. sym (entry k h)))
-  where
-    entry : (k : ℕ) → k < n → coefficientOf (codeAt (ternaryBytes t) k) ≡ getD t k 0
-    entry k h = ap (λ (code : ℕ). coefficientOf code) (ternaryBytes-code t k h) ∙ coefficient-code (getD t k 0) (ternary-entry t e k h)
+-- ---- 4 m coefficients modulo q
 
 -- a number below 256 by its digits to base 4
 digits : (b c0 c1 c2 c3 : ℕ) → b < 256 → c0 ≡ b % 4 → c1 ≡ b / 4 % 4 → c2 ≡ b / 16 % 4 → c3 ≡ b / 64 % 4
@@ -93,24 +86,30 @@ digits b c0 c1 c2 c3 h e0 e1 e2 e3 =
     sum : (b b1 b2 b3 c0 c1 c2 c3 : ℕ) → b ≡ 4 * b1 + c0 → b1 ≡ 4 * b2 + c1 → b2 ≡ 4 * b3 + c2 → b3 ≡ c3 → c0 + 4 * c1 + 16 * c2 + 64 * c3 ≡ b
     sum b b1 b2 b3 c0 c1 c2 c3 s1 s2 s3 s4 = omega arith
 
--- 256 bytes without a code 3
-pub bytes-ternaryOf : (bytes : List ℕ) → length bytes ≡ 256 → Below 256 bytes → firstInvalidCode bytes ≡ n → ternaryBytes (ternaryOf bytes) ≡ bytes
-unfolding ternaryBytes
-bytes-ternaryOf bytes size below valid = sym (table-is 256 _ bytes 0 size (λ i h. sym (entry i h)))
-  where
-    code : (k : ℕ) → k < n → codeOf (getD (ternaryOf bytes) k 0) ≡ codeAt bytes k
-    code k h = ap (λ (c : ℕ). codeOf c) (ternaryOf-entry bytes k h) ∙ code-coefficient (codeAt bytes k) (none-invalid bytes valid k h)
+module _ (q m : ℕ) (big : 2 < q) where
+  -- ternary coefficients
+  pub unpacked-packed : (t : List ℕ) → length t ≡ 4 * m → ((k : ℕ) → k < 4 * m → Trit q (getD t k 0)) → unpacked q m (packed q m t) ≡ t
+  unfolding unpacked
+  unpacked-packed t size trit = sym (table-is (4 * m) _ t 0 size (λ k h. sym (entry k h)))
+    where
+      entry : (k : ℕ) → k < 4 * m → coefficientOf q (codeAt (packed q m t) k) ≡ getD t k 0
+      entry k h = ap (λ (code : ℕ). coefficientOf q code) (packed-code q m t k h) ∙ coefficient-code q big (getD t k 0) (trit k h)
 
-    entry : (i : ℕ) → i < 256 → packedAt (ternaryOf bytes) i ≡ getD bytes i 0
-    entry i h =
-        digits (getD bytes i 0) _ _ _ _ (below-at 256 (omega arith) bytes below i)
-        (code (4 * i) (omega arith) ∙ digit-first 4 4 bytes i (omega arith))
-        (code (4 * i + 1) (omega arith) ∙ digit-in 4 4 bytes i 1 (omega arith))
-        (code (4 * i + 2) (omega arith) ∙ digit-in 4 4 bytes i 2 (omega arith))
-        (code (4 * i + 3) (omega arith) ∙ digit-in 4 4 bytes i 3 (omega arith))
+  -- m bytes without a code 3
+  pub packed-unpacked : (bytes : List ℕ) → length bytes ≡ m → Below 256 bytes → firstInvalid m bytes ≡ 4 * m → packed q m (unpacked q m bytes) ≡ bytes
+  unfolding packed
+  packed-unpacked bytes size below valid = sym (table-is m _ bytes 0 size (λ i h. sym (entry i h)))
+    where
+      code : (k : ℕ) → k < 4 * m → codeOf q (getD (unpacked q m bytes) k 0) ≡ codeAt bytes k
+      code k h = ap (λ (c : ℕ). codeOf q c) (unpacked-entry q m bytes k h) ∙ code-coefficient q big (codeAt bytes k) (none-invalid m bytes valid k h)
 
-pub ternaryOf-written : (t rest : List ℕ) → Ternary t → ternaryOf (ternaryBytes t ++ rest) ≡ t
-ternaryOf-written t rest e = ternaryOf-append (ternaryBytes t) rest (length-ternaryBytes t) ∙ ternaryOf-bytes t e
+      entry : (i : ℕ) → i < m → packedAt q (unpacked q m bytes) i ≡ getD bytes i 0
+      entry i h =
+          digits (getD bytes i 0) _ _ _ _ (below-at 256 (omega arith) bytes below i)
+          (code (4 * i) (omega arith) ∙ digit-first 4 4 bytes i (omega arith))
+          (code (4 * i + 1) (omega arith) ∙ digit-in 4 4 bytes i 1 (omega arith))
+          (code (4 * i + 2) (omega arith) ∙ digit-in 4 4 bytes i 2 (omega arith))
+          (code (4 * i + 3) (omega arith) ∙ digit-in 4 4 bytes i 3 (omega arith))
 
 -- ---- ring elements
 
@@ -122,3 +121,14 @@ bytes-elementOf bytes size below = bytes-wordsTo n bytes size below
 
 pub elementOf-written : (a rest : List ℕ) → Element a → elementOf (elementBytes a ++ rest) ≡ a
 elementOf-written a rest e = words-written n q (omega arith) a rest e
+
+-- ---- the ring's ternary polynomials
+
+pub ternaryOf-bytes : (t : List ℕ) → Ternary t → ternaryOf (ternaryBytes t) ≡ t
+ternaryOf-bytes t e = unpacked-packed q 256 (omega arith) t (e .0 .size) (ternary-entry t e)
+
+pub bytes-ternaryOf : (bytes : List ℕ) → length bytes ≡ 256 → Below 256 bytes → firstInvalidCode bytes ≡ n → ternaryBytes (ternaryOf bytes) ≡ bytes
+bytes-ternaryOf bytes size below valid = packed-unpacked q 256 (omega arith) bytes size below valid
+
+pub ternaryOf-written : (t rest : List ℕ) → Ternary t → ternaryOf (ternaryBytes t ++ rest) ≡ t
+ternaryOf-written t rest e = unpacked-append q 256 (ternaryBytes t) rest (length-ternaryBytes t) ∙ ternaryOf-bytes t e

@@ -6,45 +6,56 @@ use lib.Dec.{eqb, ltb}
 use lib.ListN.{getD}
 use Rattle.lists.specs.Table.{table}
 use Rattle.lists.specs.First.{firstFailing}
-use Rattle.ring.specs.Ring.{q, n}
+use Rattle.ring.specs.Ring.{q}
 use Rattle.encoding.specs.Digits.{digitAt}
 
 -- code k of bytes, four a byte; a missing byte counts as 0
-abbrev pub codeAt : List ℕ → ℕ → ℕ
+abbrev pub codeAt : (bytes : List ℕ) (k : ℕ) → ℕ
 codeAt bytes k = digitAt 4 4 bytes k
 
--- the coefficient of a code; 0 where the code is invalid
-abbrev pub coefficientOf : ℕ → ℕ
-coefficientOf code = cond (eqb code 1) 1 (cond (eqb code 2) (q - 1) 0)
+-- the coefficient of a code modulo q; 0 where the code is invalid
+abbrev pub coefficientOf : (q code : ℕ) → ℕ
+coefficientOf q code = cond (eqb code 1) 1 (cond (eqb code 2) (q - 1) 0)
 
--- the code of a coefficient; 0 where it is not 0, 1 or q - 1
-abbrev pub codeOf : ℕ → ℕ
-codeOf c = cond (eqb c 1) 1 (cond (eqb c (q - 1)) 2 0)
+-- the code of a coefficient modulo q; 0 where it is not 0, 1 or q - 1
+abbrev pub codeOf : (q c : ℕ) → ℕ
+codeOf q c = cond (eqb c 1) 1 (cond (eqb c (q - 1)) 2 0)
 
--- the 1,024 codes of the first 256 bytes
-unfoldable pub codesOf : List ℕ → List ℕ
-codesOf bytes = table n (codeAt bytes)
+-- the codes of the first m bytes
+unfoldable pub codesOf : (m : ℕ) (bytes : List ℕ) → List ℕ
+codesOf m bytes = table (4 * m) (codeAt bytes)
 
--- the place of the first code 3; 1,024 where there is none
-unfoldable pub firstInvalidCode : List ℕ → ℕ
-firstInvalidCode bytes = firstFailing (λ code. ltb code 3) (codesOf bytes)
+-- the place of the first code 3 of these; 4 m where there is none
+unfoldable pub firstInvalid : (m : ℕ) (bytes : List ℕ) → ℕ
+firstInvalid m bytes = firstFailing (λ code. ltb code 3) (codesOf m bytes)
 
 -- the polynomial of these codes
-unfoldable pub ternaryOf : List ℕ → List ℕ
-ternaryOf bytes = table n (λ k. coefficientOf (codeAt bytes k))
+unfoldable pub unpacked : (q m : ℕ) (bytes : List ℕ) → List ℕ
+unpacked q m bytes = table (4 * m) (λ k. coefficientOf q (codeAt bytes k))
 
 -- the byte of four coefficients
-abbrev pub packedOf : (c0 c1 c2 c3 : ℕ) → ℕ
-packedOf c0 c1 c2 c3 = codeOf c0 + 4 * codeOf c1 + 16 * codeOf c2 + 64 * codeOf c3
+abbrev pub packedOf : (q c0 c1 c2 c3 : ℕ) → ℕ
+packedOf q c0 c1 c2 c3 = codeOf q c0 + 4 * codeOf q c1 + 16 * codeOf q c2 + 64 * codeOf q c3
 
--- byte i of a ternary polynomial
-abbrev pub packedAt : List ℕ → ℕ → ℕ
-packedAt t i = packedOf (getD t (4 * i) 0) (getD t (4 * i + 1) 0) (getD t (4 * i + 2) 0) (getD t (4 * i + 3) 0)
+-- byte i of a polynomial
+abbrev pub packedAt : (q : ℕ) (t : List ℕ) (i : ℕ) → ℕ
+packedAt q t i = packedOf q (getD t (4 * i) 0) (getD t (4 * i + 1) 0) (getD t (4 * i + 2) 0) (getD t (4 * i + 3) 0)
 
--- how many bytes a ternary polynomial has
+-- the m bytes of 4 m coefficients
+unfoldable pub packed : (q m : ℕ) (t : List ℕ) → List ℕ
+packed q m t = table m (packedAt q t)
+
+-- ---- the ring's ternary polynomials: 1,024 coefficients modulo 59,393
+
+-- how many bytes one has
 abbrev pub ternaryLength : ℕ
 ternaryLength = 256
 
--- the bytes of a ternary polynomial
-unfoldable pub ternaryBytes : List ℕ → List ℕ
-ternaryBytes t = table ternaryLength (packedAt t)
+abbrev pub firstInvalidCode : List ℕ → ℕ
+firstInvalidCode bytes = firstInvalid ternaryLength bytes
+
+abbrev pub ternaryOf : List ℕ → List ℕ
+ternaryOf bytes = unpacked q ternaryLength bytes
+
+abbrev pub ternaryBytes : List ℕ → List ℕ
+ternaryBytes t = packed q ternaryLength t

@@ -7,6 +7,7 @@ use ntt::Element;
 ghost use mathlib.Core.Path.{_≡_};
 ghost use Prim.Native.Nat.{_+_, _*_, _<_, min};
 ghost use lib.ListN.{getD};
+ghost use Rattle.ring.specs.Ring.{q};
 ghost use Rattle.encoding.specs.Words.{elementOf, firstUnreduced, elementBytes};
 ghost use Rattle.encoding.specs.Codes.{coefficientOf, codeOf, packedOf, ternaryOf, firstInvalidCode, ternaryBytes};
 ghost use Rattle.encoding.specs.Header.{hasMark, versionOf, header};
@@ -88,7 +89,7 @@ pub fn encode_element(a: Element, out: &mut [u8])
 
 // The coefficient of a code: 1 of 1, - 1 of 2, and 0 of every other.
 pub fn coefficient(code: u8) -> u16
-    ensures { λ r. ⌜ r ≡ coefficientOf code ⌝ }
+    ensures { λ r. ⌜ r ≡ coefficientOf q code ⌝ }
 {
     (code == 1) as u16 + MINUS_ONE * ((code == 2) as u16)
 }
@@ -136,14 +137,14 @@ pub fn first_invalid_code(bytes: &[u8]) -> usize
 
 // The code of a coefficient: 1 of 1, 2 of - 1, and 0 of every other.
 fn code(c: u16) -> u8
-    ensures { λ r. ⌜ (r ≡ codeOf c) × (r < 3) ⌝ }
+    ensures { λ r. ⌜ (r ≡ codeOf q c) × (r < 3) ⌝ }
 {
     (c == 1) as u8 + 2 * ((c == MINUS_ONE) as u8)
 }
 
 // The byte of four coefficients.
 fn packed(c0: u16, c1: u16, c2: u16, c3: u16) -> u8
-    ensures { λ r. ⌜ r ≡ packedOf c0 c1 c2 c3 ⌝ }
+    ensures { λ r. ⌜ r ≡ packedOf q c0 c1 c2 c3 ⌝ }
 {
     code(c0) + 4 * code(c1) + 16 * code(c2) + 64 * code(c3)
 }

@@ -1,5 +1,6 @@
 use native.Mathlib.Omega.{arith}
 use lib.Dec.{eqb}
+use Rattle.ring.specs.Ring.{q}
 use Rattle.encoding.proofs.Codes.{chosen, boolByte-lt, code-lt}
 use borrow.Author.Needs.{needs}
 use Rattle.encoding.proofs.code.Statement.{statement}
@@ -20,7 +21,7 @@ add-result c = omega (arith, boolByte-lt (eqb (c .args .c) 1), boolByte-lt (eqb 
 returns : tie.Need-returns
 returns c =
     let e = chosen (c .args .c) 1 59392 2 (omega arith) in
-    (e, rw e (code-lt (c .args .c)))
+    (e, rw e (code-lt q (c .args .c)))
 
 pub code-spec : {M : Type 1} → statement M
 code-spec = tie.close (tie.spec cast-result cast-result-2 mul-result add-result returns)

@@ -5,8 +5,8 @@ use lib.ListN.{getD}
 use denote.Ref.{now}
 use Rattle.lists.specs.Table.{table}
 use Rattle.lists.proofs.Fill.{ZeroFilled}
-use Rattle.ring.specs.Ring.{n}
-use Rattle.encoding.specs.Codes.{codeAt, coefficientOf, ternaryOf}
+use Rattle.ring.specs.Ring.{q, n}
+use Rattle.encoding.specs.Codes.{codeAt, coefficientOf, unpacked}
 use Rattle.lists.proofs.TableFill.{zero-filled-start, zero-filled-next, zero-filled-table}
 use Rattle.encoding.proofs.Digits.{digit-first, digit-in, digit-missing}
 use borrow.Author.Needs.{needs}
@@ -14,7 +14,7 @@ use Rattle.encoding.proofs.decode_ternary.Statement.{statement}
 use Rattle.encoding.proofs.decode_ternary.Tie as tie
 
 abbrev Inv-loop : tie.InvT-loop
-Inv-loop bytes t₀ count i₀ t i = ZeroFilled n (table (4 * count) (λ k. coefficientOf (codeAt bytes k))) t (4 * i)
+Inv-loop bytes t₀ count i₀ t i = ZeroFilled n (table (4 * count) (λ k. coefficientOf q (codeAt bytes k))) t (4 * i)
 
 abbrev μ-loop : tie.MeasureT-loop
 μ-loop bytes t₀ count i₀ t i = count - i
@@ -89,21 +89,21 @@ loop-again c =
     let i = at .loop .i in
     let b : getD bytes i 0 < 256 = omega (arith, c .before .before .before .before .shared-slice-known2 .given i) in
     let last : getD bytes i 0 / 64 ≡ codeAt bytes (4 * i + 3) = sym (digit-in 4 4 bytes i 3 (omega arith) ∙ omega arith) in
-    let rule : ℕ → ℕ = λ k. coefficientOf (codeAt bytes k) in
+    let rule : ℕ → ℕ = λ k. coefficientOf q (codeAt bytes k) in
     zero-filled-next rule
     (zero-filled-next rule
     (zero-filled-next rule
-    (zero-filled-next rule (at .loop .inv) (omega arith) (c .before .before .before .coefficient .ensures ∙ ap coefficientOf (sym (digit-first 4 4 bytes i (omega arith)))) refl)
-    (omega arith) (c .before .before .coefficient2 .ensures ∙ ap coefficientOf (sym (digit-in 4 4 bytes i 1 (omega arith)))) (omega arith))
-    (omega arith) (c .before .coefficient3 .ensures ∙ ap coefficientOf (sym (digit-in 4 4 bytes i 2 (omega arith)))) (omega arith))
-    (omega arith) (c .coefficient4 .ensures ∙ ap coefficientOf last) (omega arith)
+    (zero-filled-next rule (at .loop .inv) (omega arith) (c .before .before .before .coefficient .ensures ∙ ap (coefficientOf q) (sym (digit-first 4 4 bytes i (omega arith)))) refl)
+    (omega arith) (c .before .before .coefficient2 .ensures ∙ ap (coefficientOf q) (sym (digit-in 4 4 bytes i 1 (omega arith)))) (omega arith))
+    (omega arith) (c .before .coefficient3 .ensures ∙ ap (coefficientOf q) (sym (digit-in 4 4 bytes i 2 (omega arith)))) (omega arith))
+    (omega arith) (c .coefficient4 .ensures ∙ ap (coefficientOf q) last) (omega arith)
 
 returns : tie.Need-returns Inv-loop μ-loop
-unfolding ternaryOf
+unfolding unpacked
 returns c =
     let bytes = now (c .before .before .before .before .args .bytes) in
-    zero-filled-table (λ k. coefficientOf (codeAt bytes k)) (c .before .loop .inv) (omega arith) (omega arith)
-    (λ k l h. ap coefficientOf (digit-missing 4 4 bytes k (omega arith)))
+    zero-filled-table (λ k. coefficientOf q (codeAt bytes k)) (c .before .loop .inv) (omega arith) (omega arith)
+    (λ k l h. ap (coefficientOf q) (digit-missing 4 4 bytes k (omega arith)))
 
 pub decode-ternary-spec : {M : Type 1} → statement M
 decode-ternary-spec =

@@ -1,7 +1,8 @@
 use mathlib.Core.Path.{refl, sym}
 use Prim.Native.Nat.{_-_}
 use native.Mathlib.Omega.{arith}
-use Rattle.encoding.specs.Codes.{packedAt, ternaryBytes}
+use Rattle.ring.specs.Ring.{q}
+use Rattle.encoding.specs.Codes.{packedAt, packed}
 use Rattle.encoding.proofs.Codes.{length-ternaryBytes}
 use Rattle.encoding.proofs.Buffers.{Put, put-none, put-next, put-done, put-short}
 use borrow.Author.Needs.{needs}
@@ -9,7 +10,7 @@ use Rattle.encoding.proofs.encode_ternary.Statement.{statement}
 use Rattle.encoding.proofs.encode_ternary.Tie as tie
 
 abbrev Inv-loop : tie.InvT-loop
-Inv-loop out₀ t i₀ out i = Put 256 (packedAt t) out₀ out i
+Inv-loop out₀ t i₀ out i = Put 256 (packedAt q t) out₀ out i
 
 abbrev μ-loop : tie.MeasureT-loop
 μ-loop out₀ t i₀ out i = 256 - i
@@ -72,7 +73,7 @@ same-length : tie.Need-same-length Inv-loop μ-loop
 same-length c = c .before .loop .inv .size
 
 returns : tie.Need-returns Inv-loop μ-loop
-unfolding ternaryBytes
+unfolding packed
 returns c = put-done (c .before .loop .inv) (omega arith)
 
 returns-2 : tie.Need-returns-2 Inv-loop μ-loop

@@ -13,7 +13,7 @@ use Rattle.encoding.proofs.first_invalid_code.Statement.{statement}
 use Rattle.encoding.proofs.first_invalid_code.Tie as tie
 
 abbrev Inv-loop : tie.InvT-loop
-Inv-loop bytes count i₀ i = ValidTo bytes (4 * i)
+Inv-loop bytes count i₀ i = ValidTo 256 bytes (4 * i)
 
 abbrev μ-loop : tie.MeasureT-loop
 μ-loop bytes count i₀ i = count - i
@@ -51,35 +51,35 @@ code-3 : (c : tie.After-shared-slice-known2 Inv-loop μ-loop) → getD (bytes (c
 code-3 c = sym (digit-in 4 4 (bytes (c .before)) (i (c .before)) 3 (omega arith) ∙ omega (arith, c .shared-slice-known2 .given (i (c .before))))
 
 -- the first of them are valid
-to-1 : (c : tie.Else1 Inv-loop μ-loop) → ValidTo (bytes (c .before .before)) (4 * i (c .before .before) + 1)
-to-1 c = valid-more _ (c .before .before .before .loop .inv) (omega arith) (code-0 (c .before .before)) (c .if1 .left) refl
+to-1 : (c : tie.Else1 Inv-loop μ-loop) → ValidTo 256 (bytes (c .before .before)) (4 * i (c .before .before) + 1)
+to-1 c = valid-more 256 _ (c .before .before .before .loop .inv) (omega arith) (code-0 (c .before .before)) (c .if1 .left) refl
 
-to-2 : (c : tie.Else2 Inv-loop μ-loop) → ValidTo (bytes (c .before .before .before)) (4 * i (c .before .before .before) + 2)
-to-2 c = valid-more _ (to-1 (c .before)) (omega arith) (code-1 (c .before .before .before)) (c .if2 .left) (omega arith)
+to-2 : (c : tie.Else2 Inv-loop μ-loop) → ValidTo 256 (bytes (c .before .before .before)) (4 * i (c .before .before .before) + 2)
+to-2 c = valid-more 256 _ (to-1 (c .before)) (omega arith) (code-1 (c .before .before .before)) (c .if2 .left) (omega arith)
 
-to-3 : (c : tie.Else3 Inv-loop μ-loop) → ValidTo (bytes (c .before .before .before .before)) (4 * i (c .before .before .before .before) + 3)
-to-3 c = valid-more _ (to-2 (c .before)) (omega arith) (code-2 (c .before .before .before .before)) (c .if3 .left) (omega arith)
+to-3 : (c : tie.Else3 Inv-loop μ-loop) → ValidTo 256 (bytes (c .before .before .before .before)) (4 * i (c .before .before .before .before) + 3)
+to-3 c = valid-more 256 _ (to-2 (c .before)) (omega arith) (code-2 (c .before .before .before .before)) (c .if3 .left) (omega arith)
 
 returns : tie.Need-returns Inv-loop μ-loop
-returns c = valid-stop _ (c .before .before .before .loop .inv) (omega arith) (code-0 (c .before .before)) (c .if1 .taken)
+returns c = valid-stop 256 _ (c .before .before .before .loop .inv) (omega arith) (code-0 (c .before .before)) (c .if1 .taken)
 
 add-result : tie.Need-add-result Inv-loop μ-loop
 add-result c = search needs
 
 returns-2 : tie.Need-returns-2 Inv-loop μ-loop
-returns-2 c = valid-stop _ (to-1 (c .before)) (omega arith) (code-1 (c .before .before .before)) (c .if2 .taken)
+returns-2 c = valid-stop 256 _ (to-1 (c .before)) (omega arith) (code-1 (c .before .before .before)) (c .if2 .taken)
 
 add-result-2 : tie.Need-add-result-2 Inv-loop μ-loop
 add-result-2 c = search needs
 
 returns-3 : tie.Need-returns-3 Inv-loop μ-loop
-returns-3 c = valid-stop _ (to-2 (c .before)) (omega arith) (code-2 (c .before .before .before .before)) (c .if3 .taken)
+returns-3 c = valid-stop 256 _ (to-2 (c .before)) (omega arith) (code-2 (c .before .before .before .before)) (c .if3 .taken)
 
 add-result-3 : tie.Need-add-result-3 Inv-loop μ-loop
 add-result-3 c = search needs
 
 returns-4 : tie.Need-returns-4 Inv-loop μ-loop
-returns-4 c = valid-stop _ (to-3 (c .before)) (omega arith) (code-3 (c .before .before .before .before)) (c .if4 .taken)
+returns-4 c = valid-stop 256 _ (to-3 (c .before)) (omega arith) (code-3 (c .before .before .before .before)) (c .if4 .taken)
 
 add-i : tie.Need-add-i Inv-loop μ-loop
 add-i c = search needs
@@ -88,10 +88,10 @@ loop-less : tie.Need-loop-less Inv-loop μ-loop
 loop-less c = search needs
 
 loop-again : tie.Need-loop-again Inv-loop μ-loop
-loop-again c = valid-more _ (to-3 (c .before)) (omega arith) (code-3 (c .before .before .before .before)) (c .if4 .left) (omega arith)
+loop-again c = valid-more 256 _ (to-3 (c .before)) (omega arith) (code-3 (c .before .before .before .before)) (c .if4 .left) (omega arith)
 
 returns-5 : tie.Need-returns-5 Inv-loop μ-loop
-returns-5 c = valid-end _ (c .before .loop .inv) (omega arith)
+returns-5 c = valid-end 256 _ (c .before .loop .inv) (omega arith)
 
 pub first-invalid-code-spec : {M : Type 1} → statement M
 first-invalid-code-spec =
