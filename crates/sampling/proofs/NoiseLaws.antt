@@ -1,7 +1,7 @@
 -- The coefficients that four bits give.
 use mathlib.Core.Path.{_≡_, refl, ap}
 use mathlib.Core.List.{List}
-use Prim.Native.Nat.{ℕ, _<_, _≤_}
+use Prim.Native.Nat.{ℕ, _*_, _<_, _≤_}
 use native.Mathlib.Nat.{le-trans}
 use native.Mathlib.Omega.{arith}
 use lib.Dec.{leb, leb→le}
@@ -14,7 +14,7 @@ use Rattle.ring.specs.Ring.{q, n}
 use Rattle.ring.specs.Centred.{residue, Ternary}
 use Rattle.ring.proofs.Centring.{residue-below, centred-residue}
 use Rattle.encoding.proofs.Digits.{digit-take}
-use Rattle.sampling.specs.Noise.{folded, fourBits, noiseCoefficient, nibbleAt, ternaryNoise}
+use Rattle.sampling.specs.Noise.{folded, fourBits, noiseCoefficient, nibbleAt, noiseBy, ternaryNoise}
 
 -- ---- the rule of four bits: these two laws are all that is used of it
 
@@ -26,15 +26,23 @@ pub noise-none : noiseCoefficient 0 ≡ 0
 unfolding noiseCoefficient fourBits folded residue
 noise-none = refl
 
--- ---- ternary polynomials
+-- ---- n coefficients, by any rule
 
-pub ternaryNoise-entry : (bytes : List ℕ) (k : ℕ) → k < n → getD (ternaryNoise bytes) k 0 ≡ noiseCoefficient (nibbleAt bytes k)
-unfolding ternaryNoise
-ternaryNoise-entry bytes k h = getD-table n _ k 0 h
+module _ (rule : ℕ → ℕ) (n : ℕ) where
+  pub noiseBy-entry : (bytes : List ℕ) (k : ℕ) → k < n → getD (noiseBy rule n bytes) k 0 ≡ rule (nibbleAt bytes k)
+  unfolding noiseBy
+  noiseBy-entry bytes k h = getD-table n _ k 0 h
 
--- any bytes give a ternary polynomial
+  -- two coefficients a byte are read, and no more
+  pub noiseBy-take : (m : ℕ) → n ≤ 2 * m → (bytes : List ℕ) → noiseBy rule n (take m bytes) ≡ noiseBy rule n bytes
+  unfolding noiseBy
+  noiseBy-take m fits bytes = table-same n _ _ (λ k h. ap rule (digit-take 16 2 bytes m k (omega arith)))
+
+-- ---- the ring's ternary polynomials
+
+-- any bytes give one
 pub ternaryNoise-ternary : (bytes : List ℕ) → Ternary (ternaryNoise bytes)
-unfolding ternaryNoise noiseCoefficient
+unfolding noiseBy noiseCoefficient
 ternaryNoise-ternary bytes = (
   element-table q n _ (λ k. residue-below (fourBits (nibbleAt bytes k))),
   λ i h.
@@ -44,6 +52,4 @@ ternaryNoise-ternary bytes = (
 
 -- the first 512 bytes are read, and no more
 pub ternaryNoise-take : (bytes : List ℕ) → ternaryNoise (take 512 bytes) ≡ ternaryNoise bytes
-unfolding ternaryNoise
-ternaryNoise-take bytes =
-    table-same n _ _ (λ k h. ap noiseCoefficient (digit-take 16 2 bytes 512 k (omega arith)))
+ternaryNoise-take bytes = noiseBy-take noiseCoefficient n 512 (omega arith) bytes

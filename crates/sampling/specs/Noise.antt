@@ -25,13 +25,17 @@ unfoldable pub noiseCoefficient : ℕ → ℕ
 noiseCoefficient t = residue (fourBits t)
 
 -- the k-th four bits of bytes; a missing byte counts as 0
-abbrev pub nibbleAt : List ℕ → ℕ → ℕ
+abbrev pub nibbleAt : (bytes : List ℕ) (k : ℕ) → ℕ
 nibbleAt bytes k = digitAt 16 2 bytes k
+
+-- n coefficients, by the rule that gives one of four bits
+unfoldable pub noiseBy : (rule : ℕ → ℕ) (n : ℕ) (bytes : List ℕ) → List ℕ
+noiseBy rule n bytes = table n (λ k. rule (nibbleAt bytes k))
 
 -- how many bytes a ternary polynomial is read from
 abbrev pub noiseLength : ℕ
 noiseLength = 512
 
 -- the ternary polynomial of the first 512 bytes
-unfoldable pub ternaryNoise : List ℕ → List ℕ
-ternaryNoise bytes = table n (λ k. noiseCoefficient (nibbleAt bytes k))
+abbrev pub ternaryNoise : List ℕ → List ℕ
+ternaryNoise bytes = noiseBy noiseCoefficient n bytes

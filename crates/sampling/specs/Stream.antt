@@ -12,13 +12,21 @@ abbrev pub streamLength : ℕ
 streamLength = 2688
 
 -- the words below q, in order; the others are passed over
-unfoldable pub reduced : List ℕ → List ℕ
-reduced ws = filter {p = λ w. w < q} (λ w. decLt w q) ws
+unfoldable pub reduced : (q : ℕ) (ws : List ℕ) → List ℕ
+reduced q ws = filter {p = λ w. w < q} (λ w. decLt w q) ws
 
--- the words that are taken: the first 1,024 below q; fewer where the stream is exhausted before
-unfoldable pub taken : List ℕ → List ℕ
-taken stream = take n (reduced (words (take streamLength stream)))
+-- the words that are taken: the first n below q; fewer where the stream is exhausted before
+unfoldable pub takenOf : (q n : ℕ) (stream : List ℕ) → List ℕ
+takenOf q n stream = take n (reduced q (words (take streamLength stream)))
 
--- the words that are taken, and zeros up to 1,024
-unfoldable pub uniformElement : List ℕ → List ℕ
-uniformElement stream = taken stream ++ zeros (n - length (taken stream))
+-- the words that are taken, and zeros up to n
+unfoldable pub uniformOf : (q n : ℕ) (stream : List ℕ) → List ℕ
+uniformOf q n stream = takenOf q n stream ++ zeros (n - length (takenOf q n stream))
+
+-- ---- in the ring: 1,024 words below 59,393
+
+abbrev pub taken : List ℕ → List ℕ
+taken stream = takenOf q n stream
+
+abbrev pub uniformElement : List ℕ → List ℕ
+uniformElement stream = uniformOf q n stream

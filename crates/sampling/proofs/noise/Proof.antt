@@ -3,6 +3,7 @@ use Prim.Native.Nat.{ℕ, _+_, _*_, _/_, _%_, _<_}
 use native.Mathlib.Omega.{arith}
 use lib.Dec.{eqb, eqb→eq}
 use Rattle.lists.proofs.Finite.{at-each}
+use Rattle.ring.specs.Ring.{q}
 use Rattle.ring.specs.Centred.{residue}
 use Rattle.encoding.specs.Codes.{coefficientOf}
 use Rattle.sampling.specs.Noise.{folded, fourBits, noiseCoefficient}
@@ -32,9 +33,9 @@ coefficient-requires c κs = search needs
 abbrev code : ℕ → ℕ
 code t = (t % 2 + t / 2 % 2 + 2 * (t / 4 % 2) + 2 * (t / 8 % 2)) % 3
 
-by-code : (t : ℕ) → t < 256 → coefficientOf (code t) ≡ noiseCoefficient (t % 16)
+by-code : (t : ℕ) → t < 256 → coefficientOf q (code t) ≡ noiseCoefficient (t % 16)
 unfolding noiseCoefficient fourBits folded residue
-by-code t h = eqb→eq _ _ (at-each 256 (λ k. eqb (coefficientOf (code k)) (noiseCoefficient (k % 16))) tt t h)
+by-code t h = eqb→eq _ _ (at-each 256 (λ k. eqb (coefficientOf q (code k)) (noiseCoefficient (k % 16))) tt t h)
 
 returns : tie.Need-returns
 returns c = c .coefficient .ensures ∙ by-code (c .before .args .t) (omega arith)

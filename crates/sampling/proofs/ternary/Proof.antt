@@ -8,7 +8,7 @@ use Rattle.lists.proofs.Fill.{ZeroFilled}
 use Rattle.ring.specs.Ring.{n}
 use Rattle.encoding.proofs.Digits.{digit-first, digit-in, digit-missing}
 use Rattle.lists.proofs.TableFill.{zero-filled-start, zero-filled-next, zero-filled-table}
-use Rattle.sampling.specs.Noise.{noiseCoefficient, nibbleAt, ternaryNoise}
+use Rattle.sampling.specs.Noise.{noiseCoefficient, nibbleAt, noiseBy}
 use Rattle.sampling.proofs.NoiseLaws.{noise-none}
 use borrow.Author.Needs.{needs}
 use Rattle.sampling.proofs.ternary.Statement.{statement}
@@ -76,7 +76,7 @@ loop-again c =
     (omega arith) (c .noise2 .ensures ∙ ap noiseCoefficient high) (omega arith)
 
 returns : tie.Need-returns Inv-loop μ-loop
-unfolding ternaryNoise
+unfolding noiseBy
 returns c =
     let bytes = now (c .before .before .before .before .args .bytes) in
     zero-filled-table (λ k. noiseCoefficient (nibbleAt bytes k)) (c .before .loop .inv) (omega arith) (omega arith)

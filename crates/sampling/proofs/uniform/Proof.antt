@@ -3,7 +3,7 @@ use mathlib.Core.Logic.{⊎-elim}
 use Prim.Native.Nat.{_+_, _-_, _*_, _<_, _≤_}
 use native.Mathlib.Omega.{arith}
 use denote.Ref.{now}
-use Rattle.ring.specs.Ring.{n}
+use Rattle.ring.specs.Ring.{q, n}
 use Rattle.sampling.proofs.Streams.{stream-words}
 use Rattle.sampling.proofs.Reading.{Read, read-none, read-pass, read-take, read-full, read-all}
 use borrow.Author.Needs.{needs}
@@ -11,19 +11,19 @@ use Rattle.sampling.proofs.uniform.Statement.{statement}
 use Rattle.sampling.proofs.uniform.Tie as tie
 
 abbrev Inv-loop : tie.InvT-loop
-Inv-loop stream value₀ count₀ k j₀ value count j = (j ≤ 84) × (k < 16) × (count < n) × Read stream (84 * k + j) value count
+Inv-loop stream value₀ count₀ k j₀ value count j = (j ≤ 84) × (k < 16) × (count < n) × Read q n stream (84 * k + j) value count
 
 abbrev μ-loop : tie.MeasureT-loop
 μ-loop stream value₀ count₀ k j₀ value count j = 84 - j
 
 abbrev Inv-blocks2 : tie.InvT-blocks2
-Inv-blocks2 stream value₀ count₀ k₀ value count k = (k ≤ 16) × (count < n) × Read stream (84 * k) value count
+Inv-blocks2 stream value₀ count₀ k₀ value count k = (k ≤ 16) × (count < n) × Read q n stream (84 * k) value count
 
 abbrev μ-blocks2 : tie.MeasureT-blocks2
 μ-blocks2 stream value₀ count₀ k₀ value count k = 16 - k
 
 blocks2-holds : tie.Need-blocks2-holds Inv-loop μ-loop Inv-blocks2 μ-blocks2
-blocks2-holds c = (omega arith, omega arith, read-none _ _ refl)
+blocks2-holds c = (omega arith, omega arith, read-none q n _ _ refl)
 
 loop-holds : tie.Need-loop-holds Inv-loop μ-loop Inv-blocks2 μ-blocks2
 loop-holds c =
