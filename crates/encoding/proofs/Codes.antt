@@ -45,6 +45,7 @@ boolByte-lt true = omega arith
 boolByte-lt false = omega arith
 
 pub code-lt : (q c : ℕ) → codeOf q c < 3
+unfolding codeOf
 code-lt q c = by (eqb c 1) (eqb c (q - 1))
   where
     by : (a b : Bool) → cond a 1 (cond b 2 0) < 3
@@ -52,8 +53,13 @@ code-lt q c = by (eqb c 1) (eqb c (q - 1))
     by false true = omega arith
     by false false = omega arith
 
+pub coefficient-none : (q : ℕ) → coefficientOf q 0 ≡ 0
+unfolding coefficientOf
+coefficient-none q = refl
+
 -- the coefficient of any code is 0, 1 or q - 1
 pub coefficient-is : (q code : ℕ) → Trit q (coefficientOf q code)
+unfolding coefficientOf
 coefficient-is q code = by (eqb code 1) (eqb code 2)
   where
     by : (a b : Bool) → let v = cond a 1 (cond b (q - 1) 0) in Trit q v
@@ -64,12 +70,14 @@ coefficient-is q code = by (eqb code 1) (eqb code 2)
 -- valid codes and ternary coefficients are those of each other
 module _ (q : ℕ) (big : 2 < q) where
   pub code-coefficient : (code : ℕ) → code < 3 → codeOf q (coefficientOf q code) ≡ code
+  unfolding codeOf coefficientOf
   code-coefficient zero h = rw (ne-eqb 0 (q - 1) (λ e. omega arith))
   code-coefficient (suc zero) h = refl
   code-coefficient (suc (suc zero)) h = rw (ne-eqb (q - 1) 1 (λ e. omega arith), eq-eqb (q - 1) (q - 1) refl)
   code-coefficient (suc (suc (suc code))) h = absurd (omega arith)
 
   pub coefficient-code : (c : ℕ) → Trit q c → coefficientOf q (codeOf q c) ≡ c
+  unfolding codeOf coefficientOf
   coefficient-code c (inl e) = rw (e, ne-eqb 0 (q - 1) (λ e. omega arith))
   coefficient-code c (inr (inl e)) = rw e
   coefficient-code c (inr (inr e)) = rw (e, ne-eqb (q - 1) 1 (λ e. omega arith), eq-eqb (q - 1) (q - 1) refl)

@@ -14,11 +14,11 @@ abbrev pub codeAt : (bytes : List ℕ) (k : ℕ) → ℕ
 codeAt bytes k = digitAt 4 4 bytes k
 
 -- the coefficient of a code modulo q; 0 where the code is invalid
-abbrev pub coefficientOf : (q code : ℕ) → ℕ
+unfoldable pub coefficientOf : (q code : ℕ) → ℕ
 coefficientOf q code = cond (eqb code 1) 1 (cond (eqb code 2) (q - 1) 0)
 
 -- the code of a coefficient modulo q; 0 where it is not 0, 1 or q - 1
-abbrev pub codeOf : (q c : ℕ) → ℕ
+unfoldable pub codeOf : (q c : ℕ) → ℕ
 codeOf q c = cond (eqb c 1) 1 (cond (eqb c (q - 1)) 2 0)
 
 -- the codes of the first m bytes

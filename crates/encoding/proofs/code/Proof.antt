@@ -1,6 +1,7 @@
 use native.Mathlib.Omega.{arith}
 use lib.Dec.{eqb}
 use Rattle.ring.specs.Ring.{q}
+use Rattle.encoding.specs.Codes.{codeOf}
 use Rattle.encoding.proofs.Codes.{chosen, boolByte-lt, code-lt}
 use borrow.Author.Needs.{needs}
 use Rattle.encoding.proofs.code.Statement.{statement}
@@ -19,6 +20,7 @@ add-result : tie.Need-add-result
 add-result c = omega (arith, boolByte-lt (eqb (c .args .c) 1), boolByte-lt (eqb (c .args .c) 59392))
 
 returns : tie.Need-returns
+unfolding codeOf
 returns c =
     let e = chosen (c .args .c) 1 59392 2 (omega arith) in
     (e, rw e (code-lt q (c .args .c)))

@@ -1,5 +1,6 @@
 use native.Mathlib.Omega.{arith}
 use lib.Dec.{eqb}
+use Rattle.encoding.specs.Codes.{coefficientOf}
 use Rattle.encoding.proofs.Codes.{chosen, boolByte-lt}
 use borrow.Author.Needs.{needs}
 use Rattle.encoding.proofs.coefficient.Statement.{statement}
@@ -18,6 +19,7 @@ add-result : tie.Need-add-result
 add-result c = omega (arith, boolByte-lt (eqb (c .args .code) 1), boolByte-lt (eqb (c .args .code) 2))
 
 returns : tie.Need-returns
+unfolding coefficientOf
 returns c = chosen (c .args .code) 1 2 59392 (omega arith)
 
 pub coefficient-spec : {M : Type 1} → statement M

@@ -9,6 +9,7 @@ use Rattle.ring.specs.Ring.{q, n}
 use Rattle.encoding.specs.Codes.{codeAt, coefficientOf, unpacked}
 use Rattle.lists.proofs.TableFill.{zero-filled-start, zero-filled-next, zero-filled-table}
 use Rattle.encoding.proofs.Digits.{digit-first, digit-in, digit-missing}
+use Rattle.encoding.proofs.Codes.{coefficient-none}
 use borrow.Author.Needs.{needs}
 use Rattle.encoding.proofs.decode_ternary.Statement.{statement}
 use Rattle.encoding.proofs.decode_ternary.Tie as tie
@@ -103,7 +104,7 @@ unfolding unpacked
 returns c =
     let bytes = now (c .before .before .before .before .args .bytes) in
     zero-filled-table (λ k. coefficientOf q (codeAt bytes k)) (c .before .loop .inv) (omega arith) (omega arith)
-    (λ k l h. ap (coefficientOf q) (digit-missing 4 4 bytes k (omega arith)))
+    (λ k l h. ap (coefficientOf q) (digit-missing 4 4 bytes k (omega arith)) ∙ coefficient-none q)
 
 pub decode-ternary-spec : {M : Type 1} → statement M
 decode-ternary-spec =

@@ -34,7 +34,7 @@ abbrev code : ℕ → ℕ
 code t = (t % 2 + t / 2 % 2 + 2 * (t / 4 % 2) + 2 * (t / 8 % 2)) % 3
 
 by-code : (t : ℕ) → t < 256 → coefficientOf q (code t) ≡ noiseCoefficient (t % 16)
-unfolding noiseCoefficient fourBits folded residue
+unfolding coefficientOf noiseCoefficient fourBits folded residue
 by-code t h = eqb→eq _ _ (at-each 256 (λ k. eqb (coefficientOf q (code k)) (noiseCoefficient (k % 16))) tt t h)
 
 returns : tie.Need-returns
