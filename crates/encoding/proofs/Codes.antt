@@ -2,7 +2,7 @@
 use mathlib.Core.Path.{_≡_, refl, sym, subst, ap, _∙_}
 use mathlib.Core.Bool.{Bool, true, false, cond}
 use mathlib.Core.Logic.{_⊎_, inl, inr}
-use mathlib.Core.List.{List, _++_}
+use mathlib.Core.List.{List, [], _∷_, _++_}
 use Prim.Native.Nat.{ℕ, zero, suc, _+_, _-_, _*_, _/_, _%_, _^_, _<_, _≤_, min}
 use native.Mathlib.Nat.{le-trans, le-of-eq}
 use native.Mathlib.Omega.{arith}
@@ -10,10 +10,10 @@ use lib.Dec.{ltb, eqb}
 use lib.ListN.{length, getD, take}
 use lib.Seq.{take-at}
 use mir.Val.{boolByte}
-use borrow.Author.Tests.{lt-ltb, le-ltb, ltb-true, ltb-false, eqb-true, eq-eqb, ne-eqb}
+use borrow.Author.Tests.{lt-ltb, ltb-true, ltb-false, eqb-true, eq-eqb, ne-eqb}
 use Rattle.lists.specs.First.{firstFailing}
 use Rattle.lists.proofs.Tables.{length-table, getD-table, table-same}
-use Rattle.lists.proofs.Scan.{Passed, passed-more, passed-stop, first-none, first-passes, first-within, first-fails}
+use Rattle.lists.proofs.Scan.{Passed, passed-more, passed-stop, before-first, first-none, first-passes, first-within, first-fails}
 use Rattle.algebra.specs.Numbers.{Below}
 use Rattle.algebra.specs.Size.{magnitude}
 use Rattle.algebra.proofs.Numbers.{below-by}
@@ -21,7 +21,7 @@ use Rattle.ring.specs.Ring.{q, n}
 use Rattle.ring.specs.Centred.{Ternary}
 use Rattle.ring.proofs.Centring.{centred-size}
 use Rattle.lists.proofs.Scan.{passed-rest}
-use Rattle.encoding.proofs.Digits.{digit-missing, digit-take}
+use Rattle.encoding.proofs.Digits.{digit-in, digit-missing, digit-take}
 use Rattle.encoding.specs.Codes.{codeAt, coefficientOf, codeOf, codesOf, firstInvalid, unpacked, packedAt, packed, firstInvalidCode, ternaryOf, ternaryBytes}
 
 -- ---- one coefficient, one code
@@ -127,17 +127,45 @@ module _ (m : ℕ) where
 abbrev pub ValidTo : (m : ℕ) (bytes : List ℕ) (k : ℕ) → Type 0
 ValidTo m bytes k = Passed (λ code. ltb code 3) (codesOf m bytes) k
 
-module _ (m : ℕ) (bytes : List ℕ) {k : ℕ} (p : ValidTo m bytes k) where
-  pub valid-more : {code e : ℕ} → k < 4 * m → code ≡ codeAt bytes k → (code ≡ 3 → ⊥) → k + 1 ≡ e → ValidTo m bytes e
-  valid-more {code} h c v e =
-      subst (ValidTo m bytes) e
-      (passed-more p (rw (length-codesOf m bytes) h) (lt-ltb (getD (codesOf m bytes) k 0) 3 (rw (codesOf-entry m bytes k h) (omega arith))))
+-- k entries pass, and so do the c behind them
+passed-many : {good : ℕ → Bool} {xs : List ℕ} {k : ℕ} → Passed good xs k → (c : ℕ) → k + c ≤ length xs → ((j : ℕ) → j < c → good (getD xs (k + j) 0) ≡ true)
+    → Passed good xs (k + c)
+passed-many {good} {xs} {k} p zero h g = subst (Passed good xs) (omega arith) p
+passed-many {good} {xs} {k} p (suc c) h g =
+    subst (Passed good xs) (omega arith) (passed-more (passed-many p c (omega arith) (λ j l. g j (omega arith))) (omega arith) (g c (omega arith)))
 
-  pub valid-stop : {code : ℕ} → k < 4 * m → code ≡ codeAt bytes k → code ≡ 3 → k ≡ firstInvalid m bytes
+-- byte i is looked at, and its first invalid code is j
+module _ (m : ℕ) (bytes : List ℕ) {i j : ℕ} (p : ValidTo m bytes (4 * i)) (inside : i < m) (found : j ≡ firstInvalid 1 (getD bytes i 0 ∷ [])) where
+  abbrev codes : List ℕ
+  codes = codesOf 1 (getD bytes i 0 ∷ [])
+
+  abbrev good : ℕ → Bool
+  good code = ltb code 3
+
+  first : j ≡ firstFailing good codes
   unfolding firstInvalid
-  valid-stop {code} h c v =
-      passed-stop p (rw (length-codesOf m bytes) h) (le-ltb (getD (codesOf m bytes) k 0) 3 (rw (codesOf-entry m bytes k h) (omega arith)))
+  first = found
 
+  same : (k : ℕ) → k < 4 → getD (codesOf m bytes) (4 * i + k) 0 ≡ getD codes k 0
+  same k h =
+      let place : k ≡ 4 * 0 + k = omega arith in
+      codesOf-entry m bytes (4 * i + k) (omega arith) ∙ digit-in 4 4 bytes i k h
+      ∙ sym (codesOf-entry 1 (getD bytes i 0 ∷ []) k h ∙ ap (codeAt (getD bytes i 0 ∷ [])) place ∙ digit-in 4 4 (getD bytes i 0 ∷ []) 0 k h)
+
+  to : (c : ℕ) → c ≤ j → c ≤ 4 → ValidTo m bytes (4 * i + c)
+  to c h l =
+      passed-many p c (omega (arith, length-codesOf m bytes)) (λ k g. ap good (same k (omega arith)) ∙ before-first good codes k (omega (arith, first)))
+
+  pub byte-stop : j < 4 → 4 * i + j ≡ firstInvalid m bytes
+  unfolding firstInvalid
+  byte-stop h =
+      passed-stop (to j (omega arith) (omega arith)) (omega (arith, length-codesOf m bytes))
+      (ap good (same j h) ∙ ap (λ (k : ℕ). good (getD codes k 0)) first ∙ first-fails good codes (omega (arith, first, length-codesOf 1 (getD bytes i 0 ∷ []))))
+
+  pub byte-more : {e : ℕ} → 4 ≤ j → 4 * i + 4 ≡ e → ValidTo m bytes e
+  byte-more h e = subst (ValidTo m bytes) e (to 4 h (omega arith))
+
+module _ (m : ℕ) (bytes : List ℕ) {k : ℕ} (p : ValidTo m bytes k) where
   -- the codes of missing bytes are valid
   pub valid-end : min (length bytes) m * 4 ≤ k → 4 * m ≡ firstInvalid m bytes
   unfolding firstInvalid

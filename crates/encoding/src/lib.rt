@@ -5,11 +5,12 @@ use modq::Q;
 use ntt::DEGREE;
 use ntt::Element;
 ghost use mathlib.Core.Path.{_≡_};
+ghost use mathlib.Core.List.{[], _∷_};
 ghost use Prim.Native.Nat.{_+_, _*_, _<_, min};
 ghost use lib.ListN.{getD};
 ghost use Rattle.ring.specs.Ring.{q};
 ghost use Rattle.encoding.specs.Words.{elementOf, firstUnreduced, elementBytes};
-ghost use Rattle.encoding.specs.Codes.{coefficientOf, codeOf, packedOf, ternaryOf, firstInvalidCode, ternaryBytes};
+ghost use Rattle.encoding.specs.Codes.{coefficientOf, codeOf, packedOf, firstInvalid, ternaryOf, firstInvalidCode, ternaryBytes};
 ghost use Rattle.encoding.specs.Header.{hasMark, versionOf, header};
 ghost use Rattle.encoding.specs.Buffers.{putFront};
 
@@ -111,25 +112,34 @@ pub fn decode_ternary(bytes: &[u8]) -> Element
     t
 }
 
+// The place of the first code 3 in a byte, and 4 where there is none.
+fn invalid_in(b: u8) -> usize
+    ensures { λ r. ⌜ r ≡ firstInvalid 1 (b ∷ []) ⌝ }
+{
+    if b % 4 == 3 {
+        return 0;
+    }
+    if b / 4 % 4 == 3 {
+        return 1;
+    }
+    if b / 16 % 4 == 3 {
+        return 2;
+    }
+    if b / 64 == 3 {
+        return 3;
+    }
+    4
+}
+
 // The place of the first code 3 in the first 256 bytes, and 1,024 where there is none. Nothing is told of the other codes.
 pub fn first_invalid_code(bytes: &[u8]) -> usize
     ensures { λ r. ⌜ r ≡ firstInvalidCode (now (bytes .entry)) ⌝ }
 {
     let count = lesser(bytes.len(), TERNARY_LENGTH);
     for i in 0..count {
-        let b = bytes[i];
-        let k = 4 * i;
-        if b % 4 == 3 {
-            return k;
-        }
-        if b / 4 % 4 == 3 {
-            return k + 1;
-        }
-        if b / 16 % 4 == 3 {
-            return k + 2;
-        }
-        if b / 64 == 3 {
-            return k + 3;
+        let j = invalid_in(bytes[i]);
+        if j < 4 {
+            return 4 * i + j;
         }
     }
     DEGREE
