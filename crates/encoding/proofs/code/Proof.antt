@@ -3,15 +3,14 @@ use lib.Dec.{eqb}
 use Rattle.ring.specs.Ring.{q}
 use Rattle.encoding.specs.Codes.{codeOf}
 use Rattle.encoding.proofs.Codes.{chosen, boolByte-lt, code-lt}
-use borrow.Author.Needs.{needs}
 use Rattle.encoding.proofs.code.Statement.{statement}
 use Rattle.encoding.proofs.code.Tie as tie
 
 cast-result : tie.Need-cast-result
-cast-result c = search needs
+cast-result c = omega arith
 
 cast-result-2 : tie.Need-cast-result-2
-cast-result-2 c = search needs
+cast-result-2 c = omega arith
 
 mul-result : tie.Need-mul-result
 mul-result c = omega (arith, boolByte-lt (eqb (c .args .c) 59392))

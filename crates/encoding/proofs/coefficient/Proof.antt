@@ -2,15 +2,14 @@ use native.Mathlib.Omega.{arith}
 use lib.Dec.{eqb}
 use Rattle.encoding.specs.Codes.{coefficientOf}
 use Rattle.encoding.proofs.Codes.{chosen, boolByte-lt}
-use borrow.Author.Needs.{needs}
 use Rattle.encoding.proofs.coefficient.Statement.{statement}
 use Rattle.encoding.proofs.coefficient.Tie as tie
 
 cast-result : tie.Need-cast-result
-cast-result c = search needs
+cast-result c = omega arith
 
 cast-result-2 : tie.Need-cast-result-2
-cast-result-2 c = search needs
+cast-result-2 c = omega arith
 
 mul-result : tie.Need-mul-result
 mul-result c = omega (arith, boolByte-lt (eqb (c .args .code) 2))

@@ -27,61 +27,61 @@ loop-holds : tie.Need-loop-holds Inv-loop μ-loop
 loop-holds c = zero-filled-start n _ _ _ (omega arith) refl
 
 shared-slice-read-b : tie.Need-shared-slice-read-b Inv-loop μ-loop
-shared-slice-read-b c = search needs
+shared-slice-read-b c = omega arith
 
 mul-k : tie.Need-mul-k Inv-loop μ-loop
-mul-k c = search needs
+mul-k c = omega arith
 
 coefficient-requires : tie.Need-coefficient-requires Inv-loop μ-loop
 coefficient-requires c κs = search needs
 
 mul-t : tie.Need-mul-t Inv-loop μ-loop
-mul-t c = search needs
+mul-t c = omega arith
 
 array-write-t : tie.Need-array-write-t Inv-loop μ-loop
-array-write-t c = search needs
+array-write-t c = omega arith
 
 coefficient-requires-2 : tie.Need-coefficient-requires-2 Inv-loop μ-loop
 coefficient-requires-2 c κs = search needs
 
 add-t : tie.Need-add-t Inv-loop μ-loop
-add-t c = search needs
+add-t c = omega arith
 
 mul-t-2 : tie.Need-mul-t-2 Inv-loop μ-loop
-mul-t-2 c = search needs
+mul-t-2 c = omega arith
 
 array-write-t-2 : tie.Need-array-write-t-2 Inv-loop μ-loop
-array-write-t-2 c = search needs
+array-write-t-2 c = omega arith
 
 coefficient-requires-3 : tie.Need-coefficient-requires-3 Inv-loop μ-loop
 coefficient-requires-3 c κs = search needs
 
 add-t-2 : tie.Need-add-t-2 Inv-loop μ-loop
-add-t-2 c = search needs
+add-t-2 c = omega arith
 
 mul-t-3 : tie.Need-mul-t-3 Inv-loop μ-loop
-mul-t-3 c = search needs
+mul-t-3 c = omega arith
 
 array-write-t-3 : tie.Need-array-write-t-3 Inv-loop μ-loop
-array-write-t-3 c = search needs
+array-write-t-3 c = omega arith
 
 coefficient-requires-4 : tie.Need-coefficient-requires-4 Inv-loop μ-loop
 coefficient-requires-4 c κs = search needs
 
 add-t-3 : tie.Need-add-t-3 Inv-loop μ-loop
-add-t-3 c = search needs
+add-t-3 c = omega arith
 
 mul-t-4 : tie.Need-mul-t-4 Inv-loop μ-loop
-mul-t-4 c = search needs
+mul-t-4 c = omega arith
 
 array-write-t-4 : tie.Need-array-write-t-4 Inv-loop μ-loop
-array-write-t-4 c = search needs
+array-write-t-4 c = omega arith
 
 add-i : tie.Need-add-i Inv-loop μ-loop
-add-i c = search needs
+add-i c = omega arith
 
 loop-less : tie.Need-loop-less Inv-loop μ-loop
-loop-less c = search needs
+loop-less c = omega arith
 
 loop-again : tie.Need-loop-again Inv-loop μ-loop
 loop-again c =

@@ -10,31 +10,31 @@ use Rattle.encoding.proofs.encode_header.Statement.{statement}
 use Rattle.encoding.proofs.encode_header.Tie as tie
 
 array-read-out : tie.Need-array-read-out
-array-read-out c = search needs
+array-read-out c = omega arith
 
 slice-write-out : tie.Need-slice-write-out
-slice-write-out c = search needs
+slice-write-out c = omega arith
 
 array-read-out-2 : tie.Need-array-read-out-2
-array-read-out-2 c = search needs
+array-read-out-2 c = omega arith
 
 slice-write-out-2 : tie.Need-slice-write-out-2
 slice-write-out-2 c = simp length-set (omega arith)
 
 array-read-out-3 : tie.Need-array-read-out-3
-array-read-out-3 c = search needs
+array-read-out-3 c = omega arith
 
 slice-write-out-3 : tie.Need-slice-write-out-3
 slice-write-out-3 c = simp length-set (omega arith)
 
 cast-out : tie.Need-cast-out
-cast-out c = search needs
+cast-out c = omega arith
 
 slice-write-out-4 : tie.Need-slice-write-out-4
 slice-write-out-4 c = simp length-set (omega arith)
 
 cast-out-2 : tie.Need-cast-out-2
-cast-out-2 c = search needs
+cast-out-2 c = omega arith
 
 slice-write-out-5 : tie.Need-slice-write-out-5
 slice-write-out-5 c = simp length-set (omega arith)

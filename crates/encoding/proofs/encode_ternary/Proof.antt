@@ -19,40 +19,40 @@ loop-holds : tie.Need-loop-holds Inv-loop μ-loop
 loop-holds c = put-none 256 _ _ (c .if1 .taken)
 
 mul-k : tie.Need-mul-k Inv-loop μ-loop
-mul-k c = search needs
+mul-k c = omega arith
 
 mul-packed : tie.Need-mul-packed Inv-loop μ-loop
-mul-packed c = search needs
+mul-packed c = omega arith
 
 array-read-packed : tie.Need-array-read-packed Inv-loop μ-loop
-array-read-packed c = search needs
+array-read-packed c = omega arith
 
 add-packed : tie.Need-add-packed Inv-loop μ-loop
-add-packed c = search needs
+add-packed c = omega arith
 
 mul-packed-2 : tie.Need-mul-packed-2 Inv-loop μ-loop
-mul-packed-2 c = search needs
+mul-packed-2 c = omega arith
 
 array-read-packed-2 : tie.Need-array-read-packed-2 Inv-loop μ-loop
-array-read-packed-2 c = search needs
+array-read-packed-2 c = omega arith
 
 add-packed-2 : tie.Need-add-packed-2 Inv-loop μ-loop
-add-packed-2 c = search needs
+add-packed-2 c = omega arith
 
 mul-packed-3 : tie.Need-mul-packed-3 Inv-loop μ-loop
-mul-packed-3 c = search needs
+mul-packed-3 c = omega arith
 
 array-read-packed-3 : tie.Need-array-read-packed-3 Inv-loop μ-loop
-array-read-packed-3 c = search needs
+array-read-packed-3 c = omega arith
 
 add-packed-3 : tie.Need-add-packed-3 Inv-loop μ-loop
-add-packed-3 c = search needs
+add-packed-3 c = omega arith
 
 mul-packed-4 : tie.Need-mul-packed-4 Inv-loop μ-loop
-mul-packed-4 c = search needs
+mul-packed-4 c = omega arith
 
 array-read-packed-4 : tie.Need-array-read-packed-4 Inv-loop μ-loop
-array-read-packed-4 c = search needs
+array-read-packed-4 c = omega arith
 
 packed-requires : tie.Need-packed-requires Inv-loop μ-loop
 packed-requires c κs = search needs
@@ -61,10 +61,10 @@ slice-write-out : tie.Need-slice-write-out Inv-loop μ-loop
 slice-write-out c = omega (arith, c .before .before .loop .inv .size, c .before .before .loop .inv .room)
 
 add-i : tie.Need-add-i Inv-loop μ-loop
-add-i c = search needs
+add-i c = omega arith
 
 loop-less : tie.Need-loop-less Inv-loop μ-loop
-loop-less c = search needs
+loop-less c = omega arith
 
 loop-again : tie.Need-loop-again Inv-loop μ-loop
 loop-again c = put-next (c .before .before .loop .inv) (omega arith) (c .packed .ensures) refl

@@ -19,25 +19,25 @@ loop-holds : tie.Need-loop-holds Inv-loop μ-loop
 loop-holds c = passed-none _ _
 
 shared-slice-read-invalid-in : tie.Need-shared-slice-read-invalid-in Inv-loop μ-loop
-shared-slice-read-invalid-in c = search needs
+shared-slice-read-invalid-in c = omega arith
 
 invalid-in-requires : tie.Need-invalid-in-requires Inv-loop μ-loop
 invalid-in-requires c κs = search needs
 
 mul-result : tie.Need-mul-result Inv-loop μ-loop
-mul-result c = search needs
+mul-result c = omega arith
 
 add-result : tie.Need-add-result Inv-loop μ-loop
-add-result c = search needs
+add-result c = omega arith
 
 returns : tie.Need-returns Inv-loop μ-loop
 returns c = byte-stop 256 _ (c .before .before .before .before .loop .inv) (omega arith) (c .before .invalid-in .ensures) (c .if1 .taken)
 
 add-i : tie.Need-add-i Inv-loop μ-loop
-add-i c = search needs
+add-i c = omega arith
 
 loop-less : tie.Need-loop-less Inv-loop μ-loop
-loop-less c = search needs
+loop-less c = omega arith
 
 loop-again : tie.Need-loop-again Inv-loop μ-loop
 loop-again c = byte-more 256 _ (c .before .before .before .before .loop .inv) (omega arith) (c .before .invalid-in .ensures) (c .if1 .left) (omega arith)
