@@ -4,14 +4,17 @@ use mathlib.Core.Bool.{Bool, true, false, cond}
 use mathlib.Core.Logic.{_⊎_, inl, inr}
 use mathlib.Core.List.{List, [], _∷_, _++_}
 use Prim.Native.Nat.{ℕ, zero, suc, _+_, _-_, _*_, _/_, _%_, _^_, _<_, _≤_, min}
-use native.Mathlib.Nat.{le-trans, le-of-eq}
+use native.Mathlib.Nat.{le-trans, le-of-eq, add-assoc}
 use native.Mathlib.Omega.{arith}
 use lib.Dec.{ltb, eqb}
-use lib.ListN.{length, getD, take}
+use lib.ListN.{length, getD, take, set}
 use lib.Seq.{take-at}
 use mir.Val.{boolByte}
 use borrow.Author.Tests.{lt-ltb, ltb-true, ltb-false, eqb-true, eq-eqb, ne-eqb}
+use Rattle.lists.specs.Table.{table}
 use Rattle.lists.specs.First.{firstFailing}
+use Rattle.lists.proofs.Fill.{ZeroFilled}
+use Rattle.lists.proofs.TableFill.{zero-filled-next}
 use Rattle.lists.proofs.Tables.{length-table, getD-table, table-same}
 use Rattle.lists.proofs.Scan.{Passed, passed-more, passed-stop, before-first, first-none, first-passes, first-within, first-fails}
 use Rattle.algebra.specs.Numbers.{Below}
@@ -21,7 +24,7 @@ use Rattle.ring.specs.Ring.{q, n}
 use Rattle.ring.specs.Centred.{Ternary}
 use Rattle.ring.proofs.Centring.{centred-size}
 use Rattle.lists.proofs.Scan.{passed-rest}
-use Rattle.encoding.proofs.Digits.{digit-in, digit-missing, digit-take}
+use Rattle.encoding.proofs.Digits.{digit-first, digit-in, digit-missing, digit-take}
 use Rattle.encoding.specs.Codes.{codeAt, coefficientOf, codeOf, codesOf, firstInvalid, unpacked, packedAt, packed, firstInvalidCode, ternaryOf, ternaryBytes}
 
 -- ---- one coefficient, one code
@@ -206,6 +209,20 @@ module _ (q m : ℕ) where
 
   pub unpacked-append : (front rest : List ℕ) → length front ≡ m → unpacked q m (front ++ rest) ≡ unpacked q m front
   unpacked-append front rest e = sym (unpacked-take (front ++ rest)) ∙ ap (unpacked q m) (take-at front rest m e)
+
+-- the four coefficients of byte i are written behind those of the bytes before it
+pub four-more : (q count i : ℕ) (bytes : List ℕ) {n : ℕ} {t : List ℕ} {c0 c1 c2 c3 : ℕ}
+    → ZeroFilled n (table (4 * count) (λ k. coefficientOf q (codeAt bytes k))) t (4 * i) → i < count → getD bytes i 0 < 256
+    → c0 ≡ coefficientOf q (getD bytes i 0 % 4) → c1 ≡ coefficientOf q (getD bytes i 0 / 4 % 4)
+    → c2 ≡ coefficientOf q (getD bytes i 0 / 16 % 4) → c3 ≡ coefficientOf q (getD bytes i 0 / 64)
+    → ZeroFilled n (table (4 * count) (λ k. coefficientOf q (codeAt bytes k))) (set (set (set (set t (4 * i) c0) (4 * i + 1) c1) (4 * i + 2) c2) (4 * i + 3) c3) (4 * (i + 1))
+four-more q count i bytes z h b e0 e1 e2 e3 =
+    let rule : ℕ → ℕ = λ k. coefficientOf q (codeAt bytes k) in
+    let last : getD bytes i 0 / 64 ≡ codeAt bytes (4 * i + 3) = sym (digit-in 4 4 bytes i 3 (omega arith) ∙ omega arith) in
+    let z1 = zero-filled-next rule z (omega arith) (e0 ∙ ap (coefficientOf q) (sym (digit-first 4 4 bytes i (omega arith)))) refl in
+    let z2 = zero-filled-next rule z1 (omega arith) (e1 ∙ ap (coefficientOf q) (sym (digit-in 4 4 bytes i 1 (omega arith)))) (add-assoc (4 * i) 1 1) in
+    let z3 = zero-filled-next rule z2 (omega arith) (e2 ∙ ap (coefficientOf q) (sym (digit-in 4 4 bytes i 2 (omega arith)))) (add-assoc (4 * i) 2 1) in
+    zero-filled-next rule z3 (omega arith) (e3 ∙ ap (coefficientOf q) last) (omega arith)
 
 -- ---- bytes of codes
 

@@ -104,10 +104,14 @@ pub fn decode_ternary(bytes: &[u8]) -> Element
     for i in 0..count {
         let b = bytes[i];
         let k = 4 * i;
-        t[k] = coefficient(b % 4);
-        t[k + 1] = coefficient(b / 4 % 4);
-        t[k + 2] = coefficient(b / 16 % 4);
-        t[k + 3] = coefficient(b / 64);
+        let c0 = coefficient(b % 4);
+        let c1 = coefficient(b / 4 % 4);
+        let c2 = coefficient(b / 16 % 4);
+        let c3 = coefficient(b / 64);
+        t[k] = c0;
+        t[k + 1] = c1;
+        t[k + 2] = c2;
+        t[k + 3] = c3;
     }
     t
 }
@@ -177,16 +181,10 @@ pub fn encode_ternary(t: Element, out: &mut [u8])
 pub fn has_mark(bytes: &[u8], mark: [u8; MARK_LENGTH]) -> bool
     ensures { λ r. ⌜ r ≡ hasMark mark (now (bytes .entry)) ⌝ }
 {
-    if bytes.len() < MARK_LENGTH {
-        return false;
-    }
-    if bytes[0] != mark[0] {
-        return false;
-    }
-    if bytes[1] != mark[1] {
-        return false;
-    }
-    bytes[2] == mark[2]
+    (bytes.len() >= MARK_LENGTH)
+        & (byte_at(bytes, 0) == mark[0])
+        & (byte_at(bytes, 1) == mark[1])
+        & (byte_at(bytes, 2) == mark[2])
 }
 
 // The version after the mark.

@@ -1,5 +1,5 @@
-use mathlib.Core.Path.{_≡_, refl, sym, ap, _∙_}
-use Prim.Native.Nat.{ℕ, _+_, _-_, _*_, _/_, _<_}
+use mathlib.Core.Path.{refl, ap, _∙_}
+use Prim.Native.Nat.{_-_, _*_, _<_}
 use native.Mathlib.Omega.{arith}
 use lib.ListN.{getD}
 use denote.Ref.{now}
@@ -7,9 +7,9 @@ use Rattle.lists.specs.Table.{table}
 use Rattle.lists.proofs.Fill.{ZeroFilled}
 use Rattle.ring.specs.Ring.{q, n}
 use Rattle.encoding.specs.Codes.{codeAt, coefficientOf, unpacked}
-use Rattle.lists.proofs.TableFill.{zero-filled-start, zero-filled-next, zero-filled-table}
-use Rattle.encoding.proofs.Digits.{digit-first, digit-in, digit-missing}
-use Rattle.encoding.proofs.Codes.{coefficient-none}
+use Rattle.lists.proofs.TableFill.{zero-filled-start, zero-filled-table}
+use Rattle.encoding.proofs.Digits.{digit-missing}
+use Rattle.encoding.proofs.Codes.{coefficient-none, four-more}
 use borrow.Author.Needs.{needs}
 use Rattle.encoding.proofs.decode_ternary.Statement.{statement}
 use Rattle.encoding.proofs.decode_ternary.Tie as tie
@@ -35,14 +35,20 @@ mul-k c = omega arith
 coefficient-requires : tie.Need-coefficient-requires Inv-loop μ-loop
 coefficient-requires c κs = search needs
 
+coefficient-requires-2 : tie.Need-coefficient-requires-2 Inv-loop μ-loop
+coefficient-requires-2 c κs = search needs
+
+coefficient-requires-3 : tie.Need-coefficient-requires-3 Inv-loop μ-loop
+coefficient-requires-3 c κs = search needs
+
+coefficient-requires-4 : tie.Need-coefficient-requires-4 Inv-loop μ-loop
+coefficient-requires-4 c κs = search needs
+
 mul-t : tie.Need-mul-t Inv-loop μ-loop
 mul-t c = omega arith
 
 array-write-t : tie.Need-array-write-t Inv-loop μ-loop
 array-write-t c = omega arith
-
-coefficient-requires-2 : tie.Need-coefficient-requires-2 Inv-loop μ-loop
-coefficient-requires-2 c κs = search needs
 
 add-t : tie.Need-add-t Inv-loop μ-loop
 add-t c = omega arith
@@ -53,9 +59,6 @@ mul-t-2 c = omega arith
 array-write-t-2 : tie.Need-array-write-t-2 Inv-loop μ-loop
 array-write-t-2 c = omega arith
 
-coefficient-requires-3 : tie.Need-coefficient-requires-3 Inv-loop μ-loop
-coefficient-requires-3 c κs = search needs
-
 add-t-2 : tie.Need-add-t-2 Inv-loop μ-loop
 add-t-2 c = omega arith
 
@@ -64,9 +67,6 @@ mul-t-3 c = omega arith
 
 array-write-t-3 : tie.Need-array-write-t-3 Inv-loop μ-loop
 array-write-t-3 c = omega arith
-
-coefficient-requires-4 : tie.Need-coefficient-requires-4 Inv-loop μ-loop
-coefficient-requires-4 c κs = search needs
 
 add-t-3 : tie.Need-add-t-3 Inv-loop μ-loop
 add-t-3 c = omega arith
@@ -87,17 +87,9 @@ loop-again : tie.Need-loop-again Inv-loop μ-loop
 loop-again c =
     let at = c .before .before .before .before .before .before in
     let bytes = now (at .before .before .before .args .bytes) in
-    let i = at .loop .i in
-    let b : getD bytes i 0 < 256 = omega (arith, c .before .before .before .before .shared-slice-known2 .given i) in
-    let last : getD bytes i 0 / 64 ≡ codeAt bytes (4 * i + 3) = sym (digit-in 4 4 bytes i 3 (omega arith) ∙ omega arith) in
-    let rule : ℕ → ℕ = λ k. coefficientOf q (codeAt bytes k) in
-    zero-filled-next rule
-    (zero-filled-next rule
-    (zero-filled-next rule
-    (zero-filled-next rule (at .loop .inv) (omega arith) (c .before .before .before .coefficient .ensures ∙ ap (coefficientOf q) (sym (digit-first 4 4 bytes i (omega arith)))) refl)
-    (omega arith) (c .before .before .coefficient2 .ensures ∙ ap (coefficientOf q) (sym (digit-in 4 4 bytes i 1 (omega arith)))) (omega arith))
-    (omega arith) (c .before .coefficient3 .ensures ∙ ap (coefficientOf q) (sym (digit-in 4 4 bytes i 2 (omega arith)))) (omega arith))
-    (omega arith) (c .coefficient4 .ensures ∙ ap (coefficientOf q) last) (omega arith)
+    let b : getD bytes (at .loop .i) 0 < 256 = omega (arith, c .before .before .before .before .shared-slice-known2 .given (at .loop .i)) in
+    four-more q _ (at .loop .i) bytes (at .loop .inv) (c .before .before .before .before .before .loop-test .taken) b
+    (c .before .before .before .coefficient .ensures) (c .before .before .coefficient2 .ensures) (c .before .coefficient3 .ensures) (c .coefficient4 .ensures)
 
 returns : tie.Need-returns Inv-loop μ-loop
 unfolding unpacked
@@ -117,17 +109,17 @@ decode-ternary-spec =
     shared-slice-read-b
     mul-k
     coefficient-requires
+    coefficient-requires-2
+    coefficient-requires-3
+    coefficient-requires-4
     mul-t
     array-write-t
-    coefficient-requires-2
     add-t
     mul-t-2
     array-write-t-2
-    coefficient-requires-3
     add-t-2
     mul-t-3
     array-write-t-3
-    coefficient-requires-4
     add-t-3
     mul-t-4
     array-write-t-4
