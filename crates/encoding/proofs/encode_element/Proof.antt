@@ -20,7 +20,7 @@ abbrev μ-loop : tie.MeasureT-loop
 μ-loop out₀ a k₀ out k = 1024 - k
 
 loop-holds : tie.Need-loop-holds Inv-loop μ-loop
-loop-holds c = put-none 2048 _ _ (c .if1 .taken)
+loop-holds c = put-none 2048 _ _ (omega arith)
 
 mul-w : tie.Need-mul-w Inv-loop μ-loop
 mul-w c = omega arith

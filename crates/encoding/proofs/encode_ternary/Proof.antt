@@ -16,7 +16,7 @@ abbrev μ-loop : tie.MeasureT-loop
 μ-loop out₀ t i₀ out i = 256 - i
 
 loop-holds : tie.Need-loop-holds Inv-loop μ-loop
-loop-holds c = put-none 256 _ _ (c .if1 .taken)
+loop-holds c = put-none 256 _ _ (omega arith)
 
 mul-k : tie.Need-mul-k Inv-loop μ-loop
 mul-k c = omega arith
