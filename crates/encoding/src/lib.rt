@@ -6,7 +6,7 @@ use ntt::DEGREE;
 use ntt::Element;
 ghost use mathlib.Core.Path.{_≡_};
 ghost use mathlib.Core.List.{[], _∷_};
-ghost use Prim.Native.Nat.{_+_, _*_, _<_, min};
+ghost use Prim.Native.Nat.{_+_, _*_, _<_};
 ghost use lib.ListN.{getD};
 ghost use Rattle.ring.specs.Ring.{q};
 ghost use Rattle.encoding.specs.Words.{elementOf, firstUnreduced, elementBytes};
@@ -26,20 +26,6 @@ pub const HEADER_LENGTH: usize = MARK_LENGTH + 2;
 // The coefficient - 1.
 const MINUS_ONE: u16 = Q - 1;
 
-// The lesser of two lengths: how much of what is lent is read.
-pub fn lesser(a: usize, b: usize) -> usize
-    ensures { λ r. ⌜ r ≡ min a b ⌝ }
-{
-    if a < b { a } else { b }
-}
-
-// The byte at a place, and 0 past the end.
-pub fn byte_at(bytes: &[u8], i: usize) -> u8
-    ensures { λ r. ⌜ r ≡ getD (now (bytes .entry)) i 0 ⌝ }
-{
-    if i < bytes.len() { bytes[i] } else { 0 }
-}
-
 // ---- ring elements
 
 // The word of two bytes.
@@ -54,7 +40,7 @@ pub fn decode_element(bytes: &[u8]) -> Element
     ensures { λ r. ⌜ r ≡ elementOf (now (bytes .entry)) ⌝ }
 {
     let mut a = [0u16; DEGREE];
-    let count = lesser(bytes.len() / 2, DEGREE);
+    let count = octets::lesser(bytes.len() / 2, DEGREE);
     for k in 0..count {
         a[k] = word(bytes[2 * k], bytes[2 * k + 1]);
     }
@@ -100,7 +86,7 @@ pub fn decode_ternary(bytes: &[u8]) -> Element
     ensures { λ r. ⌜ r ≡ ternaryOf (now (bytes .entry)) ⌝ }
 {
     let mut t = [0u16; DEGREE];
-    let count = lesser(bytes.len(), TERNARY_LENGTH);
+    let count = octets::lesser(bytes.len(), TERNARY_LENGTH);
     for i in 0..count {
         let b = bytes[i];
         let k = 4 * i;
@@ -139,7 +125,7 @@ fn invalid_in(b: u8) -> usize
 pub fn first_invalid_code(bytes: &[u8]) -> usize
     ensures { λ r. ⌜ r ≡ firstInvalidCode (now (bytes .entry)) ⌝ }
 {
-    let count = lesser(bytes.len(), TERNARY_LENGTH);
+    let count = octets::lesser(bytes.len(), TERNARY_LENGTH);
     for i in 0..count {
         let j = invalid_in(bytes[i]);
         if j < 4 {
@@ -182,16 +168,16 @@ pub fn has_mark(bytes: &[u8], mark: [u8; MARK_LENGTH]) -> bool
     ensures { λ r. ⌜ r ≡ hasMark mark (now (bytes .entry)) ⌝ }
 {
     (bytes.len() >= MARK_LENGTH)
-        & (byte_at(bytes, 0) == mark[0])
-        & (byte_at(bytes, 1) == mark[1])
-        & (byte_at(bytes, 2) == mark[2])
+        & (octets::byte_at(bytes, 0) == mark[0])
+        & (octets::byte_at(bytes, 1) == mark[1])
+        & (octets::byte_at(bytes, 2) == mark[2])
 }
 
 // The version after the mark.
 pub fn version(bytes: &[u8]) -> u16
     ensures { λ r. ⌜ r ≡ versionOf (now (bytes .entry)) ⌝ }
 {
-    word(byte_at(bytes, 3), byte_at(bytes, 4))
+    word(octets::byte_at(bytes, 3), octets::byte_at(bytes, 4))
 }
 
 // Writes a mark and a version, five bytes.

@@ -16,7 +16,8 @@ use Rattle.keccak_steps.specs.Steps.{State, lane, state}
 use Rattle.keccak_steps.proofs.States.{Wide, wide-state, lane-state}
 use Rattle.keccak.specs.Keccak.{keccakF}
 use Rattle.keccak.proofs.Wide.{keccak-wide}
-use Rattle.string_to_state.specs.Words.{join8, word, stateOf}
+use Rattle.octets.specs.Words.{join8}
+use Rattle.string_to_state.specs.Words.{word, stateOf}
 use Rattle.state_to_string.specs.Bytes.{laneByte, byteOf, bytesOf}
 use Rattle.shake.specs.Sponge.{xorState, absorbBlock, absorbed, permuted, squeezed, absorb, squeeze}
 use Rattle.shake.specs.Shake.{padding, padded, shake, shake256}

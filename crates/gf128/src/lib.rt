@@ -19,35 +19,12 @@ struct Element {
 
 // ---- elements as bytes
 
-// Eight bytes as a word, the lowest first.
-fn join(b0: u8, b1: u8, b2: u8, b3: u8, b4: u8, b5: u8, b6: u8, b7: u8) -> u64
-    ensures { λ r. ⌜ r ≡ number (b0 ∷ b1 ∷ b2 ∷ b3 ∷ b4 ∷ b5 ∷ b6 ∷ b7 ∷ []) ⌝ }
-{
-    (b0 as u64)
-        + (b1 as u64) * 0x100
-        + (b2 as u64) * 0x10000
-        + (b3 as u64) * 0x1000000
-        + (b4 as u64) * 0x100000000
-        + (b5 as u64) * 0x10000000000
-        + (b6 as u64) * 0x1000000000000
-        + (b7 as u64) * 0x100000000000000
-}
-
 // The word of eight bytes from a place on.
 fn word(b: &[u8], at: usize) -> u64
     requires { ⌜ at + 8 ≤ length (now b) ⌝ }
     ensures { λ r. ⌜ r ≡ number (eightAt (now (b .entry)) at) ⌝ }
 {
-    join(
-        b[at],
-        b[at + 1],
-        b[at + 2],
-        b[at + 3],
-        b[at + 4],
-        b[at + 5],
-        b[at + 6],
-        b[at + 7],
-    )
+    octets::word_at(b, at)
 }
 
 // The element of 16 bytes.

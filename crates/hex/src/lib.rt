@@ -64,18 +64,12 @@ fn put_bytes(text: &[u8], out: &mut [u8])
     }
 }
 
-fn lesser(a: usize, b: usize) -> usize
-    ensures { λ r. ⌜ r ≡ min a b ⌝ }
-{
-    if a < b { a } else { b }
-}
-
 // Writes the text of the bytes, two digits a byte. A shorter buffer gets the digits that it has room for, and of a longer one
 // the rest stays as it is.
 pub fn encode(bytes: &[u8], out: &mut [u8])
     ensures { λ _. ⌜ now (out .exit) ≡ written (textOf (now (bytes .entry))) (now (out .entry)) ⌝ }
 {
-    let n = lesser(2 * bytes.len(), out.len());
+    let n = octets::lesser(2 * bytes.len(), out.len());
     put_text(bytes, &mut out[..n]);
 }
 
@@ -86,7 +80,7 @@ pub fn decode(text: &[u8], out: &mut [u8]) -> usize
     ensures { λ r. ⌜ r ≡ min (length (decoded (now (text .entry)))) (length (now (out .entry))) ⌝ }
     ensures { λ _. ⌜ now (out .exit) ≡ written (decoded (now (text .entry))) (now (out .entry)) ⌝ }
 {
-    let n = lesser(count_digits(text) / 2, out.len());
+    let n = octets::lesser(count_digits(text) / 2, out.len());
     put_bytes(text, &mut out[..n]);
     n
 }

@@ -37,7 +37,7 @@ pub fn ternary(bytes: &[u8]) -> Element
     ensures { λ r. ⌜ r ≡ ternaryNoise (now (bytes .entry)) ⌝ }
 {
     let mut t = [0u16; DEGREE];
-    let count = encoding::lesser(bytes.len(), NOISE_LENGTH);
+    let count = octets::lesser(bytes.len(), NOISE_LENGTH);
     for i in 0..count {
         let b = bytes[i];
         t[2 * i] = noise(b % 16);

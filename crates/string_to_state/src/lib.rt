@@ -5,38 +5,14 @@ ghost use lib.Bits.{bitXor};
 ghost use lib.ListN.{length, getD};
 ghost use Rattle.lists.specs.Table.{table};
 ghost use Rattle.keccak_steps.specs.Steps.{lane, plane, state};
-ghost use Rattle.string_to_state.specs.Words.{join8, word};
-
-// Eight bytes as a lane.
-fn join(b0: u8, b1: u8, b2: u8, b3: u8, b4: u8, b5: u8, b6: u8, b7: u8) -> u64
-    ensures { λ r. ⌜ r ≡ join8 b0 b1 b2 b3 b4 b5 b6 b7 ⌝ }
-{
-    (b0 as u64)
-        + (b1 as u64) * 0x100
-        + (b2 as u64) * 0x10000
-        + (b3 as u64) * 0x1000000
-        + (b4 as u64) * 0x100000000
-        + (b5 as u64) * 0x10000000000
-        + (b6 as u64) * 0x1000000000000
-        + (b7 as u64) * 0x100000000000000
-}
+ghost use Rattle.string_to_state.specs.Words.{word};
 
 // Lane k of a string.
 fn word(b: &[u8], k: usize) -> u64
     requires { ⌜ 8 * k + 8 ≤ length (now b) ⌝ }
     ensures { λ r. ⌜ r ≡ word (now (b .entry)) k ⌝ }
 {
-    let i = 8 * k;
-    join(
-        b[i],
-        b[i + 1],
-        b[i + 2],
-        b[i + 3],
-        b[i + 4],
-        b[i + 5],
-        b[i + 6],
-        b[i + 7],
-    )
+    octets::word_at(b, 8 * k)
 }
 
 // The lanes of a string of whole lanes, and zeros up to 25.

@@ -6,12 +6,6 @@ ghost use lib.ListN.{length, take, drop};
 ghost use Rattle.lists.specs.Table.{zeros};
 ghost use Rattle.text.specs.Text.{written, decimal};
 
-fn lesser(a: usize, b: usize) -> usize
-    ensures { λ r. ⌜ r ≡ min a b ⌝ }
-{
-    if a < b { a } else { b }
-}
-
 fn copy(out: &mut [u8], s: &[u8])
     requires { ⌜ length (now out) ≡ length (now s) ⌝ }
     ensures { λ _. ⌜ now (out .exit) ≡ now (s .entry) ⌝ }
@@ -27,7 +21,7 @@ pub fn put(out: &mut [u8], at: usize, s: &[u8]) -> usize
     ensures { λ r. ⌜ r ≡ min (at + length (now (s .entry))) (length (now (out .entry))) ⌝ }
     ensures { λ _. ⌜ now (out .exit) ≡ take at (now (out .entry)) ++ written (now (s .entry)) (drop at (now (out .entry))) ⌝ }
 {
-    let n = lesser(s.len(), out.len() - at);
+    let n = octets::lesser(s.len(), out.len() - at);
     let end = at + n;
     copy(&mut out[at..end], &s[0..n]);
     end

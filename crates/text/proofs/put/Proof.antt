@@ -12,7 +12,7 @@ use Rattle.text.proofs.put.Tie as tie
 use Rattle.text.proofs.put.Reads as reads
 use Rattle.text.proofs.put.Lts as lts
 use Rattle.text.proofs.copy.Reads as copy-reads
-use Rattle.text.proofs.lesser.Reads as lesser-reads
+use Rattle.octets.proofs.lesser.Reads as lesser-reads
 
 sub-lesser : tie.Need-sub-lesser
 sub-lesser c = search needs
