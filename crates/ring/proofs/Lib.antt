@@ -6,11 +6,9 @@ pub mod Ternaries
 pub mod Integers
 pub mod Centring
 pub mod RemainderLaws
--- For the proofs of the functions: signed values, scans, the tree of products.
+-- For the proofs of the functions: signed values, scans.
 pub mod Signed
 pub mod Scans
-pub mod Levels
-pub mod Trees
 -- Products and inverses by the transform.
 pub mod Transforms
 pub mod Spectra

@@ -22,11 +22,11 @@ use Rattle.modq.proofs.Prime.{q-positive, negacyclic-root}
 use Rattle.modq.proofs.Reciprocals.{reciprocal-times, reciprocal-below}
 use Rattle.ntt.specs.Spectrum.{spectrumOf, coefficientsOf, pointwise}
 use Rattle.ntt.proofs.Spectrum.{spectrum-of-reduced, length-spectrum, coefficients-element, spectrum-of-coefficients, coefficients-of-spectrum, product-by-transform}
+use Rattle.reciprocals.proofs.HasZero.{no-zero, some-zero}
 use Rattle.ring.specs.Ring.{q, n, Element, one, product, Invertible}
 use Rattle.ring.specs.Invertible.{invertible?, inverseOf}
 use Rattle.ring.specs.Reciprocals.{hasZero, reciprocalsOf}
 use Rattle.ring.proofs.RingLaws.{inverse-is, inverse-none}
-use Rattle.ring.proofs.Scans.{no-zero, some-zero}
 
 value-of-zeros : (x m : ℕ) → N.valueMod q x (zeros m) ≡ 0
 unfolding N.valueMod

@@ -4,5 +4,3 @@ pub mod Ring
 pub mod Invertible
 pub mod Centred
 pub mod Reciprocals
--- what the private steps of `reciprocals` make
-pub mod Tree

@@ -1,22 +1,3 @@
--- The reciprocals modulo q of n numbers at once.
-use mathlib.Core.Bool.{Bool, not, cond}
-use mathlib.Core.List.{List}
-use Prim.Native.Nat.{ℕ, _%_}
-use lib.Dec.{eqb, ltb}
-use lib.ListN.{length, getD}
-use Rattle.lists.specs.Table.{table}
-use Rattle.lists.specs.First.{firstFailing}
-use Rattle.modq.specs.Modulus.{reciprocalOf}
-use Rattle.ring.specs.Ring.{q, n}
-
--- q does not divide x
-abbrev pub nonzero? : ℕ → Bool
-nonzero? x = not (eqb (x % q) 0)
-
--- q divides some entry
-unfoldable pub hasZero : List ℕ → Bool
-hasZero t = ltb (firstFailing nonzero? t) (length t)
-
--- the reciprocal of every entry; zeros where some entry has none
-unfoldable pub reciprocalsOf : List ℕ → List ℕ
-reciprocalsOf t = table n (λ k. cond (hasZero t) 0 (reciprocalOf (getD t k 0)))
+-- The reciprocals of a spectrum, and whether they exist: as in crate reciprocals.
+pub use Rattle.reciprocals.specs.Reciprocals.{nonzero?}
+unfoldable pub use Rattle.reciprocals.specs.Reciprocals.{hasZero, reciprocalsOf}

@@ -6,9 +6,9 @@ use native.Mathlib.Omega.{arith}
 use lib.ListN.{length}
 use borrow.Author.Needs.{needs}
 use Rattle.lists.proofs.Scan.{Scanned, scanned-none, scanned-pass, scanned-fail}
+use Rattle.reciprocals.proofs.HasZero.{nonzero-true, nonzero-false, zero-scanned}
 use Rattle.ring.specs.Ring.{n}
 use Rattle.ring.specs.Reciprocals.{nonzero?}
-use Rattle.ring.proofs.Scans.{nonzero-true, nonzero-false, zero-scanned}
 use Rattle.ring.proofs.has_zero.Statement.{statement}
 use Rattle.ring.proofs.has_zero.Tie as tie
 

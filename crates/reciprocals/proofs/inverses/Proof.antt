@@ -6,14 +6,14 @@ use borrow.Author.Needs.{needs}
 use Rattle.ntt.specs.Layers.{layers}
 use Rattle.ntt.proofs.Factors.{shifted}
 use Rattle.ntt.proofs.Layers.{layers-zero, layers-more}
-use Rattle.ring.specs.Ring.{n}
-use Rattle.ring.specs.Tree.{invertedTop, inversesOf}
-use Rattle.ring.proofs.Trees.{level-small, Down, length-down}
-use Rattle.ring.proofs.inverses.Statement.{statement}
-use Rattle.ring.proofs.inverses.Tie as tie
+use Rattle.ntt.specs.Spectrum.{degree}
+use Rattle.reciprocals.specs.Tree.{invertedTop, inversesOf}
+use Rattle.reciprocals.proofs.Trees.{level-small, Down, length-down}
+use Rattle.reciprocals.proofs.inverses.Statement.{statement}
+use Rattle.reciprocals.proofs.inverses.Tie as tie
 
 abbrev Inv-loop : tie.InvT-loop
-Inv-loop h r₀ k₀ r k = (k ≤ 10) × (length r ≡ 2 * n) × (r ≡ layers (Down h) k (invertedTop h))
+Inv-loop h r₀ k₀ r k = (k ≤ 10) × (length r ≡ 2 * degree) × (r ≡ layers (Down h) k (invertedTop h))
 
 abbrev μ-loop : tie.MeasureT-loop
 μ-loop h r₀ k₀ r k = 10 - k

@@ -1,9 +1,9 @@
 use Prim.Native.Nat.{_-_}
 use native.Mathlib.Omega.{arith}
 use borrow.Author.Needs.{needs}
-use Rattle.ring.proofs.Levels.{Multiplied, multiplied-none, multiplied-more, multiplied-all}
-use Rattle.ring.proofs.multiply_level.Statement.{statement}
-use Rattle.ring.proofs.multiply_level.Tie as tie
+use Rattle.reciprocals.proofs.Levels.{Multiplied, multiplied-none, multiplied-more, multiplied-all}
+use Rattle.reciprocals.proofs.multiply_level.Statement.{statement}
+use Rattle.reciprocals.proofs.multiply_level.Tie as tie
 
 abbrev Inv-loop : tie.InvT-loop
 Inv-loop h₀ m j₀ h j = Multiplied m h₀ h j

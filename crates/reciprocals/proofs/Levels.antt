@@ -9,8 +9,8 @@ use Rattle.lists.specs.Table.{table}
 use Rattle.lists.proofs.Tables.{length-table, getD-table}
 use Rattle.lists.proofs.Fill.{Filled, filled-none, filled-more-by, filled-all, FilledHalves, filled-halves-none, filled-halves-more, filled-halves-all}
 use Rattle.algebra.specs.Numbers.{mulMod}
-use Rattle.ring.specs.Ring.{q}
-use Rattle.ring.specs.Tree.{withLevel, productBelow, multipliedLevel, leftInverse, rightInverse, invertedLevel}
+use Rattle.ntt.specs.Spectrum.{q}
+use Rattle.reciprocals.specs.Tree.{withLevel, productBelow, multipliedLevel, leftInverse, rightInverse, invertedLevel}
 
 -- ---- the entries of a list with a level replaced
 

@@ -1,11 +1,11 @@
 use mathlib.Core.Path.{_≡_, ap, _∙_}
 use lib.ListN.{length, drop}
 use borrow.Author.Needs.{needs}
-use Rattle.ring.specs.Ring.{n}
-use Rattle.ring.specs.Tree.{productsOf, inversesOf}
-use Rattle.ring.proofs.Trees.{reciprocals-are}
-use Rattle.ring.proofs.reciprocals.Statement.{statement}
-use Rattle.ring.proofs.reciprocals.Tie as tie
+use Rattle.ntt.specs.Spectrum.{degree}
+use Rattle.reciprocals.specs.Tree.{productsOf, inversesOf}
+use Rattle.reciprocals.proofs.Trees.{reciprocals-are}
+use Rattle.reciprocals.proofs.reciprocals.Statement.{statement}
+use Rattle.reciprocals.proofs.reciprocals.Tie as tie
 
 leaves-requires : tie.Need-leaves-requires
 leaves-requires c κs = search needs
@@ -22,10 +22,10 @@ lower-half-requires c κs = search needs
 returns : tie.Need-returns
 returns c =
     let t = c .before .before .before .before .args .t in
-    let size : length t ≡ n = search needs in
+    let size : length t ≡ degree = search needs in
     let h = c .before .before .products .ensures ∙ ap productsOf (c .before .before .before .leaves .ensures) in
     let r = c .before .inverses .ensures ∙ ap inversesOf h in
-    c .lower-half .ensures ∙ ap (drop n) r ∙ reciprocals-are t size
+    c .lower-half .ensures ∙ ap (drop degree) r ∙ reciprocals-are t size
 
 pub reciprocals-spec : {M : Type 1} → statement M
 reciprocals-spec =

@@ -5,20 +5,20 @@ use lib.ListN.{length, drop, length-drop}
 use lib.Seq.{getD-drop}
 use borrow.Author.Needs.{needs}
 use Rattle.lists.proofs.Fill.{Filled, filled-none, filled-more, filled-all}
-use Rattle.ring.specs.Ring.{n}
-use Rattle.ring.proofs.lower_half.Statement.{statement}
-use Rattle.ring.proofs.lower_half.Tie as tie
+use Rattle.ntt.specs.Spectrum.{degree}
+use Rattle.reciprocals.proofs.lower_half.Statement.{statement}
+use Rattle.reciprocals.proofs.lower_half.Tie as tie
 
 abbrev Inv-loop : tie.InvT-loop
-Inv-loop h r₀ i₀ r i = Filled n (drop n h) r i
+Inv-loop h r₀ i₀ r i = Filled degree (drop degree h) r i
 
 abbrev μ-loop : tie.MeasureT-loop
-μ-loop h r₀ i₀ r i = n - i
+μ-loop h r₀ i₀ r i = degree - i
 
 loop-holds : tie.Need-loop-holds Inv-loop μ-loop
 loop-holds c =
-    let size : length (c .args .t1) ≡ 2 * n = search needs in
-    filled-none (drop n (c .args .t1)) _ (length-drop n (c .args .t1) ∙ omega arith) refl
+    let size : length (c .args .t1) ≡ 2 * degree = search needs in
+    filled-none (drop degree (c .args .t1)) _ (length-drop degree (c .args .t1) ∙ omega arith) refl
 
 add-r : tie.Need-add-r Inv-loop μ-loop
 add-r c = search needs
@@ -44,7 +44,7 @@ loop-less c = search needs
 loop-again : tie.Need-loop-again Inv-loop μ-loop
 loop-again c =
     let at = c .before in
-    filled-more 0 (at .loop .inv) (c .loop-test .taken) (sym (getD-drop n (at .before .args .t1) (at .loop .i) 0))
+    filled-more 0 (at .loop .inv) (c .loop-test .taken) (sym (getD-drop degree (at .before .args .t1) (at .loop .i) 0))
 
 returns : tie.Need-returns Inv-loop μ-loop
 returns c = filled-all (c .before .loop .inv) (c .loop-test .left)

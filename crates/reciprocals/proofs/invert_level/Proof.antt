@@ -1,9 +1,9 @@
 use Prim.Native.Nat.{_-_}
 use native.Mathlib.Omega.{arith}
 use borrow.Author.Needs.{needs}
-use Rattle.ring.proofs.Levels.{Inverted, inverted-none, inverted-more, inverted-all}
-use Rattle.ring.proofs.invert_level.Statement.{statement}
-use Rattle.ring.proofs.invert_level.Tie as tie
+use Rattle.reciprocals.proofs.Levels.{Inverted, inverted-none, inverted-more, inverted-all}
+use Rattle.reciprocals.proofs.invert_level.Statement.{statement}
+use Rattle.reciprocals.proofs.invert_level.Tie as tie
 
 abbrev Inv-loop : tie.InvT-loop
 Inv-loop r₀ h m j₀ r j = Inverted m h r₀ r j

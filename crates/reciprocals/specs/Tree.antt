@@ -1,5 +1,5 @@
--- The tree of products by which `reciprocals` needs one reciprocal only. It is a list of 2 n entries. Level m, for m = 1, 2, 4, .., n, is the
--- m entries from m on, and entry m + j stands above the entries 2 m + j and 3 m + j. The lowest level has the leaves; entry 0 is on no level.
+-- The tree of products by which `reciprocals` needs one reciprocal only. It is a list of 2,048 entries. Level m, for m = 1, 2, 4, .., 1,024,
+-- is the m entries from m on, and entry m + j stands above the entries 2 m + j and 3 m + j. The lowest level has the leaves; entry 0 is on no level.
 use mathlib.Core.List.{List, _∷_, _++_}
 use Prim.Native.Nat.{ℕ, _+_, _-_, _*_, _^_}
 use lib.ListN.{getD, take, drop}
@@ -7,7 +7,7 @@ use Rattle.lists.specs.Table.{table, zeros}
 use Rattle.algebra.specs.Numbers.{mulMod}
 use Rattle.modq.specs.Modulus.{reciprocalOf}
 use Rattle.ntt.specs.Layers.{layers}
-use Rattle.ring.specs.Ring.{q, n}
+use Rattle.ntt.specs.Spectrum.{q, degree}
 
 -- h with x as its level m; every other entry stays
 abbrev pub withLevel : (m : ℕ) (x h : List ℕ) → List ℕ
@@ -16,7 +16,7 @@ withLevel m x h = take m h ++ (x ++ drop (2 * m) h)
 -- ---- up: each entry above the leaves is the product of the two below it
 
 unfoldable pub leavesOf : List ℕ → List ℕ
-leavesOf t = zeros n ++ t
+leavesOf t = zeros degree ++ t
 
 abbrev pub productBelow : (m : ℕ) (h : List ℕ) → ℕ → ℕ
 productBelow m h j = mulMod q (getD h (2 * m + j) 0) (getD h (3 * m + j) 0)
@@ -43,7 +43,7 @@ invertedLevel m h r = withLevel (2 * m) (table m (leftInverse m h r) ++ table m 
 
 -- the reciprocal of the top, and zeros
 unfoldable pub invertedTop : List ℕ → List ℕ
-invertedTop h = 0 ∷ reciprocalOf (getD h 1 0) ∷ zeros (2 * n - 2)
+invertedTop h = 0 ∷ reciprocalOf (getD h 1 0) ∷ zeros (2 * degree - 2)
 
 -- level 2 first, then 4, .., 1,024
 unfoldable pub inversesOf : List ℕ → List ℕ

@@ -7,14 +7,14 @@ use borrow.Author.Needs.{needs}
 use Rattle.ntt.specs.Layers.{layers}
 use Rattle.ntt.proofs.Factors.{shifted}
 use Rattle.ntt.proofs.Layers.{layers-zero, layers-more}
-use Rattle.ring.specs.Ring.{n}
-use Rattle.ring.specs.Tree.{productsOf}
-use Rattle.ring.proofs.Trees.{level-small, Up, length-up}
-use Rattle.ring.proofs.products.Statement.{statement}
-use Rattle.ring.proofs.products.Tie as tie
+use Rattle.ntt.specs.Spectrum.{degree}
+use Rattle.reciprocals.specs.Tree.{productsOf}
+use Rattle.reciprocals.proofs.Trees.{level-small, Up, length-up}
+use Rattle.reciprocals.proofs.products.Statement.{statement}
+use Rattle.reciprocals.proofs.products.Tie as tie
 
 abbrev Inv-loop : tie.InvT-loop
-Inv-loop h₀ k₀ h k = (k ≤ 10) × (length h ≡ 2 * n) × (h ≡ layers Up k h₀)
+Inv-loop h₀ k₀ h k = (k ≤ 10) × (length h ≡ 2 * degree) × (h ≡ layers Up k h₀)
 
 abbrev μ-loop : tie.MeasureT-loop
 μ-loop h₀ k₀ h k = 10 - k

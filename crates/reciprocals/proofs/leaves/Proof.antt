@@ -6,20 +6,20 @@ use lib.ListN.{length, getD, take, drop, length-set, take-append-drop}
 use lib.Seq.{take-set-le, drop-set-add}
 use borrow.Author.Needs.{needs}
 use Rattle.lists.proofs.Fill.{Filled, filled-none, filled-more, filled-all}
-use Rattle.ring.specs.Ring.{n}
-use Rattle.ring.specs.Tree.{leavesOf}
-use Rattle.ring.proofs.leaves.Statement.{statement}
-use Rattle.ring.proofs.leaves.Tie as tie
+use Rattle.ntt.specs.Spectrum.{degree}
+use Rattle.reciprocals.specs.Tree.{leavesOf}
+use Rattle.reciprocals.proofs.leaves.Statement.{statement}
+use Rattle.reciprocals.proofs.leaves.Tie as tie
 
 abbrev Inv-loop : tie.InvT-loop
-Inv-loop t h₀ i₀ h i = (length h ≡ 2 * n) × Filled n t (drop n h) i × (take n h ≡ take n h₀)
+Inv-loop t h₀ i₀ h i = (length h ≡ 2 * degree) × Filled degree t (drop degree h) i × (take degree h ≡ take degree h₀)
 
 abbrev μ-loop : tie.MeasureT-loop
-μ-loop t h₀ i₀ h i = n - i
+μ-loop t h₀ i₀ h i = degree - i
 
 loop-holds : tie.Need-loop-holds Inv-loop μ-loop
 loop-holds c =
-    let size : length (c .args .t1) ≡ n = search needs in
+    let size : length (c .args .t1) ≡ degree = search needs in
     (refl, filled-none (c .args .t1) _ size refl, refl)
 
 mul-h : tie.Need-mul-h Inv-loop μ-loop
@@ -48,15 +48,15 @@ loop-again c =
     let at = c .before in
     let v = getD (at .before .args .t1) (at .loop .i) 0 in (
       simp length-set (at .loop .inv .0),
-      rw (drop-set-add n (at .loop .h) (at .loop .i) v) (filled-more 0 (at .loop .inv .1) (c .loop-test .taken) refl),
-      take-set-le n (at .loop .h) (n + at .loop .i) v (omega arith) ∙ at .loop .inv .2,
+      rw (drop-set-add degree (at .loop .h) (at .loop .i) v) (filled-more 0 (at .loop .inv .1) (c .loop-test .taken) refl),
+      take-set-le degree (at .loop .h) (degree + at .loop .i) v (omega arith) ∙ at .loop .inv .2,
     )
 
 returns : tie.Need-returns Inv-loop μ-loop
 unfolding leavesOf
 returns c =
     let at = c .before in
-    sym (take-append-drop n (at .loop .h)) ∙ ap₂ (λ (x y : List ℕ). x ++ y) (at .loop .inv .2) (filled-all (at .loop .inv .1) (c .loop-test .left))
+    sym (take-append-drop degree (at .loop .h)) ∙ ap₂ (λ (x y : List ℕ). x ++ y) (at .loop .inv .2) (filled-all (at .loop .inv .1) (c .loop-test .left))
 
 pub leaves-spec : {M : Type 1} → statement M
 leaves-spec =

@@ -22,11 +22,11 @@ use Rattle.modq.proofs.Products.{mulMod-comm, inverse-factor}
 use Rattle.modq.proofs.Reciprocals.{reciprocal-is, reciprocal-none, reciprocal-times, reciprocal-below, nonzero-product}
 use Rattle.ntt.specs.Layers.{layers}
 use Rattle.ntt.proofs.Layers.{layers-zero, layers-suc}
-use Rattle.ring.specs.Ring.{q, n}
-use Rattle.ring.specs.Reciprocals.{nonzero?, hasZero, reciprocalsOf}
-use Rattle.ring.specs.Tree.{leavesOf, productBelow, multipliedLevel, productsOf, invertedLevel, invertedTop, inversesOf}
-use Rattle.ring.proofs.Levels.{length-multiplied, multiplied-at, multiplied-below, length-inverted, left-at, right-at}
-use Rattle.ring.proofs.Scans.{nonzero-true, nonzero-false, no-zero, some-zero}
+use Rattle.ntt.specs.Spectrum.{q, degree}
+use Rattle.reciprocals.specs.Reciprocals.{nonzero?, hasZero, reciprocalsOf}
+use Rattle.reciprocals.specs.Tree.{leavesOf, productBelow, multipliedLevel, productsOf, invertedLevel, invertedTop, inversesOf}
+use Rattle.reciprocals.proofs.Levels.{length-multiplied, multiplied-at, multiplied-below, length-inverted, left-at, right-at}
+use Rattle.reciprocals.proofs.HasZero.{nonzero-true, nonzero-false, no-zero, some-zero}
 
 -- ---- the sizes of the levels
 
@@ -40,22 +40,22 @@ level-next k = ap (λ (e : ℕ). 2 ^ e) (add-one k) ∙ two-pow-succ k ∙ omega
 
 -- over the leaves t, from level 2^i on, each entry of h is the product of the two below it
 pub record Tree (t h : List ℕ) (i : ℕ) : Type 0 where
-  pub leaf : (j : ℕ) → j < n → getD h (n + j) 0 ≡ getD t j 0
+  pub leaf : (j : ℕ) → j < degree → getD h (degree + j) 0 ≡ getD t j 0
   pub product : (e : ℕ) → i ≤ e → e < 10 → (j : ℕ) → j < 2 ^ e → getD h (2 ^ e + j) 0 ≡ productBelow (2 ^ e) h j
 
-tree-none : (l : List ℕ) → Tree (drop n l) l 10
-tree-none l = record { leaf = λ j h. sym (getD-drop n l j 0); product = λ e a b. absurd (omega arith) }
+tree-none : (l : List ℕ) → Tree (drop degree l) l 10
+tree-none l = record { leaf = λ j h. sym (getD-drop degree l j 0); product = λ e a b. absurd (omega arith) }
 
-tree-more : {t g : List ℕ} {k : ℕ} → k < 10 → length g ≡ 2 * n → Tree t g (k + 1) → Tree t (multipliedLevel (2 ^ k) g) k
+tree-more : {t g : List ℕ} {k : ℕ} → k < 10 → length g ≡ 2 * degree → Tree t g (k + 1) → Tree t (multipliedLevel (2 ^ k) g) k
 tree-more {t} {g} {k} small size old = record {
-  leaf = λ j l. below (n + j) (omega (arith, fits)) ∙ old .leaf j l;
+  leaf = λ j l. below (degree + j) (omega (arith, fits)) ∙ old .leaf j l;
   product = λ e a b. by e a b (ℕ-discrete k e);
 }
   where
     h : List ℕ
     h = multipliedLevel (2 ^ k) g
 
-    fits : 2 * 2 ^ k ≤ n
+    fits : 2 * 2 ^ k ≤ degree
     fits = omega (arith, level-small k small)
 
     below : (i : ℕ) → 2 * 2 ^ k ≤ i → getD h i 0 ≡ getD g i 0
@@ -77,11 +77,11 @@ tree-more {t} {g} {k} small size old = record {
 abbrev pub Up : ℕ → List ℕ → List ℕ
 Up k = multipliedLevel (2 ^ (9 - k))
 
-pub length-up : (k : ℕ) (h : List ℕ) → length h ≡ 2 * n → length (Up k h) ≡ 2 * n
+pub length-up : (k : ℕ) (h : List ℕ) → length h ≡ 2 * degree → length (Up k h) ≡ 2 * degree
 length-up k h size = length-multiplied (2 ^ (9 - k)) h (omega (arith, level-small (9 - k) (omega arith))) ∙ size
 
 -- after k levels
-tree-levels : (l : List ℕ) → length l ≡ 2 * n → (k : ℕ) → k ≤ 10 → (length (layers Up k l) ≡ 2 * n) × Tree (drop n l) (layers Up k l) (10 - k)
+tree-levels : (l : List ℕ) → length l ≡ 2 * degree → (k : ℕ) → k ≤ 10 → (length (layers Up k l) ≡ 2 * degree) × Tree (drop degree l) (layers Up k l) (10 - k)
 tree-levels l size zero b = rw (layers-zero Up l) (size, tree-none l)
 tree-levels l size (suc k) b =
     let (old, tree) = tree-levels l size k (omega arith) in
@@ -90,20 +90,20 @@ tree-levels l size (suc k) b =
     rw (layers-suc Up k l, next)
     (length-up k _ old, tree-more (omega arith) old (rw here at tree))
 
-length-leaves : (t : List ℕ) → length t ≡ n → length (leavesOf t) ≡ 2 * n
+length-leaves : (t : List ℕ) → length t ≡ degree → length (leavesOf t) ≡ 2 * degree
 unfolding leavesOf
-length-leaves t size = length-append (zeros n) t ∙ ap₂ (λ (x y : ℕ). x + y) (sym (size-zeros n)) size
+length-leaves t size = length-append (zeros degree) t ∙ ap₂ (λ (x y : ℕ). x + y) (sym (size-zeros degree)) size
 
-drop-leaves : (t : List ℕ) → drop n (leavesOf t) ≡ t
+drop-leaves : (t : List ℕ) → drop degree (leavesOf t) ≡ t
 unfolding leavesOf
-drop-leaves t = drop-at (zeros n) t n (sym (size-zeros n))
+drop-leaves t = drop-at (zeros degree) t degree (sym (size-zeros degree))
 
-products-tree : (t : List ℕ) → length t ≡ n → Tree t (productsOf (leavesOf t)) 0
+products-tree : (t : List ℕ) → length t ≡ degree → Tree t (productsOf (leavesOf t)) 0
 unfolding productsOf
 products-tree t size = subst (λ (x : List ℕ). Tree x (layers Up 10 (leavesOf t)) 0) (drop-leaves t) (tree-levels (leavesOf t) (length-leaves t size) 10 (omega arith) .1)
 
 -- over leaves that q does not divide, q divides no entry
-nonzero-entry : (t h : List ℕ) → Tree t h 0 → ((k : ℕ) → k < n → getD t k 0 % q ≢ 0)
+nonzero-entry : (t h : List ℕ) → Tree t h 0 → ((k : ℕ) → k < degree → getD t k 0 % q ≢ 0)
     → (fuel e : ℕ) → e + fuel ≡ 10 → (j : ℕ) → j < 2 ^ e → getD h (2 ^ e + j) 0 % q ≢ 0
 nonzero-entry t h tree leaf zero e f j l =
     let p : 10 ≡ e = omega arith in
@@ -156,7 +156,7 @@ other-child : (b : Bool) (x y u : ℕ) → Inverse b (mulMod q x y) u → Invers
 other-child b x y u i = child b y x u (rw (mulMod-comm q y x) i)
 
 -- of the level below
-inverses-more : {t h s : List ℕ} {k : ℕ} → k < 10 → length s ≡ 2 * n → Tree t h 0 → Inverses h s (2 ^ k) → Inverses h (invertedLevel (2 ^ k) h s) (2 ^ (k + 1))
+inverses-more : {t h s : List ℕ} {k : ℕ} → k < 10 → length s ≡ 2 * degree → Tree t h 0 → Inverses h s (2 ^ k) → Inverses h (invertedLevel (2 ^ k) h s) (2 ^ (k + 1))
 inverses-more {t} {h} {s} {k} small size tree old =
     subst (Inverses h r) (sym (level-next k)) (record { inverse = λ j l. by j l (decLt j m) })
   where
@@ -190,16 +190,16 @@ inverses-more {t} {h} {s} {k} small size tree old =
 abbrev pub Down : List ℕ → ℕ → List ℕ → List ℕ
 Down h k = invertedLevel (2 ^ k) h
 
-pub length-down : (k : ℕ) (h r : List ℕ) → k < 10 → length r ≡ 2 * n → length (Down h k r) ≡ 2 * n
+pub length-down : (k : ℕ) (h r : List ℕ) → k < 10 → length r ≡ 2 * degree → length (Down h k r) ≡ 2 * degree
 length-down k h r small size = length-inverted (2 ^ k) h r (omega (arith, level-small k small)) ∙ size
 
-length-top : (h : List ℕ) → length (invertedTop h) ≡ 2 * n
+length-top : (h : List ℕ) → length (invertedTop h) ≡ 2 * degree
 unfolding invertedTop
-length-top h = ap (λ (k : ℕ). suc (suc k)) (sym (size-zeros (2 * n - 2)))
+length-top h = ap (λ (k : ℕ). suc (suc k)) (sym (size-zeros (2 * degree - 2)))
 
 -- after k levels
 inverses-levels : {t h : List ℕ} → Tree t h 0 → (k : ℕ) → k ≤ 10
-    → (length (layers (Down h) k (invertedTop h)) ≡ 2 * n) × Inverses h (layers (Down h) k (invertedTop h)) (2 ^ k)
+    → (length (layers (Down h) k (invertedTop h)) ≡ 2 * degree) × Inverses h (layers (Down h) k (invertedTop h)) (2 ^ k)
 inverses-levels {t} {h} tree zero b = rw (layers-zero (Down h) (invertedTop h)) (length-top h, inverses-one h)
 inverses-levels {t} {h} tree (suc k) b =
     let (old, inverses) = inverses-levels tree k (omega arith) in
@@ -209,13 +209,13 @@ inverses-levels {t} {h} tree (suc k) b =
 
 -- ---- the leaves' inverses are the reciprocals, or zeros where q divides a leaf
 
-module _ (t h r : List ℕ) (size : length t ≡ n) (size-r : length r ≡ 2 * n) (tree : Tree t h 0) (inverses : Inverses h r n) where
-  pair : (b : Bool) → nonzero? (getD h 1 0) ≡ b → (k : ℕ) → k < n → Inverse b (getD t k 0) (getD r (n + k) 0)
-  pair b e k l = subst₂ (λ (c : Bool) (x : ℕ). Inverse c x (getD r (n + k) 0)) e (tree .leaf k l) (inverses .inverse k l)
+module _ (t h r : List ℕ) (size : length t ≡ degree) (size-r : length r ≡ 2 * degree) (tree : Tree t h 0) (inverses : Inverses h r degree) where
+  pair : (b : Bool) → nonzero? (getD h 1 0) ≡ b → (k : ℕ) → k < degree → Inverse b (getD t k 0) (getD r (degree + k) 0)
+  pair b e k l = subst₂ (λ (c : Bool) (x : ℕ). Inverse c x (getD r (degree + k) 0)) e (tree .leaf k l) (inverses .inverse k l)
 
   -- entry k, by whether there is a zero among the leaves and whether the top is zero
-  entry : (z b : Bool) → hasZero t ≡ z → nonzero? (getD h 1 0) ≡ b → (k : ℕ) → k < n → getD r (n + k) 0 ≡ cond z 0 (reciprocalOf (getD t k 0))
-  entry false true ez eb k l = let i = pair true eb k l in sym (reciprocal-is (getD t k 0) (getD r (n + k) 0) (i .1) (i .0))
+  entry : (z b : Bool) → hasZero t ≡ z → nonzero? (getD h 1 0) ≡ b → (k : ℕ) → k < degree → getD r (degree + k) 0 ≡ cond z 0 (reciprocalOf (getD t k 0))
+  entry false true ez eb k l = let i = pair true eb k l in sym (reciprocal-is (getD t k 0) (getD r (degree + k) 0) (i .1) (i .0))
   entry true false ez eb k l = pair false eb k l
   entry false false ez eb k l =
       let nonzero = nonzero-entry t h tree (λ j m. no-zero t ez j (omega arith)) 10 0 (omega arith) 0 (omega arith) in
@@ -224,19 +224,19 @@ module _ (t h r : List ℕ) (size : length t ≡ n) (size-r : length r ≡ 2 * n
     where
       zero-has-none : (i : ℕ) × (i < length t) × (getD t i 0 % q ≡ 0) → ⊥
       zero-has-none (i, g, e) =
-          let one : mulMod q (getD t i 0) (getD r (n + i) 0) ≡ 1 = pair true eb i (omega arith) .0 in
-          let none : mulMod q (getD t i 0) (getD r (n + i) 0) ≡ 0 =
-          sym (mod-mul-left (getD t i 0) (getD r (n + i) 0) q) ∙ ap (λ (x : ℕ). mulMod q x (getD r (n + i) 0)) e
-          ∙ ap (λ (x : ℕ). x % q) (zero-mul (getD r (n + i) 0)) in
+          let one : mulMod q (getD t i 0) (getD r (degree + i) 0) ≡ 1 = pair true eb i (omega arith) .0 in
+          let none : mulMod q (getD t i 0) (getD r (degree + i) 0) ≡ 0 =
+          sym (mod-mul-left (getD t i 0) (getD r (degree + i) 0) q) ∙ ap (λ (x : ℕ). mulMod q x (getD r (degree + i) 0)) e
+          ∙ ap (λ (x : ℕ). x % q) (zero-mul (getD r (degree + i) 0)) in
           omega arith
 
-  leaves-inverses : drop n r ≡ reciprocalsOf t
+  leaves-inverses : drop degree r ≡ reciprocalsOf t
   unfolding reciprocalsOf
   leaves-inverses =
-      table-is n _ (drop n r) 0 (length-drop n r ∙ omega arith)
-      (λ k l. getD-drop n r k 0 ∙ entry (hasZero t) (nonzero? (getD h 1 0)) refl refl k l)
+      table-is degree _ (drop degree r) 0 (length-drop degree r ∙ omega arith)
+      (λ k l. getD-drop degree r k 0 ∙ entry (hasZero t) (nonzero? (getD h 1 0)) refl refl k l)
 
-pub reciprocals-are : (t : List ℕ) → length t ≡ n → drop n (inversesOf (productsOf (leavesOf t))) ≡ reciprocalsOf t
+pub reciprocals-are : (t : List ℕ) → length t ≡ degree → drop degree (inversesOf (productsOf (leavesOf t))) ≡ reciprocalsOf t
 unfolding inversesOf
 reciprocals-are t size =
     let h = productsOf (leavesOf t) in
