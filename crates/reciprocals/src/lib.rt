@@ -38,14 +38,13 @@ fn multiply_level(h: &mut [u16; TREE], m: usize)
 }
 
 // Each entry above the leaves is the product of the two below it.
-fn products(l: [u16; TREE]) -> [u16; TREE]
-    ensures { λ r. ⌜ r ≡ productsOf l ⌝ }
+fn products(h: &mut [u16; TREE])
+    requires { ⌜ length (now h) ≡ 2048 ⌝ }
+    ensures { λ _. ⌜ now (h .exit) ≡ productsOf (now (h .entry)) ⌝ }
 {
-    let mut h = l;
     for k in 0..10usize {
-        multiply_level(&mut h, 1 << (9 - k));
+        multiply_level(h, 1 << (9 - k));
     }
-    h
 }
 
 // An entry is x × y, so the reciprocal of x is that of the entry times y.
@@ -63,19 +62,20 @@ fn invert_level(r: &mut [u16; TREE], h: &[u16; TREE], m: usize)
 }
 
 // The top's reciprocal is 0 where it has none, and then so are all.
-fn inverses(h: [u16; TREE]) -> [u16; TREE]
-    ensures { λ r. ⌜ r ≡ inversesOf h ⌝ }
+fn inverses(h: &[u16; TREE]) -> [u16; TREE]
+    ensures { λ r. ⌜ r ≡ inversesOf (now (h .entry)) ⌝ }
 {
     let mut r = [0u16; TREE];
     r[1] = modq::reciprocal(h[1]);
     for k in 0..10usize {
-        invert_level(&mut r, &h, 1 << k);
+        invert_level(&mut r, h, 1 << k);
     }
     r
 }
 
-fn lower_half(h: [u16; TREE]) -> Spectrum
-    ensures { λ r. ⌜ r ≡ drop degree h ⌝ }
+fn lower_half(h: &[u16; TREE]) -> Spectrum
+    requires { ⌜ length (now h) ≡ 2048 ⌝ }
+    ensures { λ r. ⌜ r ≡ drop degree (now (h .entry)) ⌝ }
 {
     let mut r = [0u16; DEGREE];
     for i in 0..DEGREE {
@@ -88,6 +88,8 @@ fn lower_half(h: [u16; TREE]) -> Spectrum
 pub fn reciprocals(t: Spectrum) -> Spectrum
     ensures { λ r. ⌜ r ≡ reciprocalsOf t ⌝ }
 {
-    let h = products(leaves(t));
-    lower_half(inverses(h))
+    let mut h = leaves(t);
+    products(&mut h);
+    let r = inverses(&h);
+    lower_half(&r)
 }

@@ -7,7 +7,7 @@ use Prim.Native.Nat.{ℕ, zero, suc, _%_, _<_}
 use native.Mathlib.Nat.{mod-mod, mul-zero}
 use native.Mathlib.Omega.{arith}
 use lib.ListN.{length, getD}
-use Rattle.lists.specs.Table.{table, zeros}
+use Rattle.lists.specs.Table.{zeros}
 use Rattle.lists.proofs.Tables.{length-table, getD-table, table-same}
 use Rattle.lists.proofs.Zeros.{zeros-table}
 use Rattle.algebra.specs.Numbers as N

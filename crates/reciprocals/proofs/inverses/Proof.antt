@@ -18,8 +18,8 @@ Inv-loop h r₀ k₀ r k = (k ≤ 10) × (length r ≡ 2 * degree) × (r ≡ lay
 abbrev μ-loop : tie.MeasureT-loop
 μ-loop h r₀ k₀ r k = 10 - k
 
-array-read-reciprocal : tie.Need-array-read-reciprocal Inv-loop μ-loop
-array-read-reciprocal c = search needs
+element-copy-out-reciprocal : tie.Need-element-copy-out-reciprocal Inv-loop μ-loop
+element-copy-out-reciprocal c = search needs
 
 reciprocal-requires : tie.Need-reciprocal-requires Inv-loop μ-loop
 reciprocal-requires c κs = search needs
@@ -30,7 +30,7 @@ array-write-r c = search needs
 loop-holds : tie.Need-loop-holds Inv-loop μ-loop
 unfolding invertedTop
 loop-holds c =
-    let h = c .before .args .t1 in
+    let h = c .before .before .args .h .now in
     (search needs, refl, rw (layers-zero (Down h) (invertedTop h), c .reciprocal .ensures))
 
 shl-invert-level : tie.Need-shl-invert-level Inv-loop μ-loop
@@ -38,8 +38,8 @@ shl-invert-level c = search needs
 
 invert-level-requires : tie.Need-invert-level-requires Inv-loop μ-loop
 invert-level-requires c κs =
-    let at = c .before .before .before in
-    let below = c .before .before .loop-test .taken in
+    let at = c .before .before in
+    let below = c .before .loop-test .taken in
     (at .loop .inv .1, rw (shifted (at .loop .k) below) (level-small (at .loop .k) below))
 
 add-k : tie.Need-add-k Inv-loop μ-loop
@@ -50,9 +50,9 @@ loop-less c = search needs
 
 loop-again : tie.Need-loop-again Inv-loop μ-loop
 loop-again c =
-    let at = c .before .before .before .before in
-    let h = at .before .before .args .t1 in
-    let below = c .before .before .before .loop-test .taken in
+    let at = c .before .before .before in
+    let h = at .before .before .before .args .h .now in
+    let below = c .before .before .loop-test .taken in
     let made = rw (shifted (at .loop .k) below) at (c .invert-level .ensures) in (
       search needs,
       ap length made ∙ length-down (at .loop .k) _ _ below (at .loop .inv .1),
@@ -62,7 +62,7 @@ loop-again c =
 returns : tie.Need-returns Inv-loop μ-loop
 unfolding inversesOf
 returns c =
-    let h = c .before .before .before .args .t1 in
+    let h = c .before .before .before .before .args .h .now in
     let end : c .before .loop .k ≡ 10 = omega arith in
     c .before .loop .inv .2 ∙ ap (λ (k : ℕ). layers (Down h) k (invertedTop h)) end
 
@@ -72,7 +72,7 @@ inverses-spec =
     (tie.spec
     Inv-loop
     μ-loop
-    array-read-reciprocal
+    element-copy-out-reciprocal
     reciprocal-requires
     array-write-r
     loop-holds

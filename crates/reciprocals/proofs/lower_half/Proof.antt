@@ -1,7 +1,7 @@
-use mathlib.Core.Path.{_≡_, refl, sym, _∙_}
-use Prim.Native.Nat.{_*_, _-_}
+use mathlib.Core.Path.{refl, sym, _∙_}
+use Prim.Native.Nat.{_-_}
 use native.Mathlib.Omega.{arith}
-use lib.ListN.{length, drop, length-drop}
+use lib.ListN.{drop, length-drop}
 use lib.Seq.{getD-drop}
 use borrow.Author.Needs.{needs}
 use Rattle.lists.proofs.Fill.{Filled, filled-none, filled-more, filled-all}
@@ -17,8 +17,8 @@ abbrev μ-loop : tie.MeasureT-loop
 
 loop-holds : tie.Need-loop-holds Inv-loop μ-loop
 loop-holds c =
-    let size : length (c .args .t1) ≡ 2 * degree = search needs in
-    filled-none (drop degree (c .args .t1)) _ (length-drop degree (c .args .t1) ∙ omega arith) refl
+    let h = c .args .h .now in
+    filled-none (drop degree h) _ (length-drop degree h ∙ omega (arith, c .pre)) refl
 
 add-r : tie.Need-add-r Inv-loop μ-loop
 add-r c = search needs
@@ -26,8 +26,8 @@ add-r c = search needs
 mul-r : tie.Need-mul-r Inv-loop μ-loop
 mul-r c = search needs
 
-array-read-r : tie.Need-array-read-r Inv-loop μ-loop
-array-read-r c = search needs
+element-copy-out-r : tie.Need-element-copy-out-r Inv-loop μ-loop
+element-copy-out-r c = search needs
 
 mul-r-2 : tie.Need-mul-r-2 Inv-loop μ-loop
 mul-r-2 c = search needs
@@ -43,8 +43,8 @@ loop-less c = search needs
 
 loop-again : tie.Need-loop-again Inv-loop μ-loop
 loop-again c =
-    let at = c .before in
-    filled-more 0 (at .loop .inv) (c .loop-test .taken) (sym (getD-drop degree (at .before .args .t1) (at .loop .i) 0))
+    let at = c .before .before in
+    filled-more 0 (at .loop .inv) (c .before .loop-test .taken) (sym (getD-drop degree (at .before .args .h .now) (at .loop .i) 0))
 
 returns : tie.Need-returns Inv-loop μ-loop
 returns c = filled-all (c .before .loop .inv) (c .loop-test .left)
@@ -58,7 +58,7 @@ lower-half-spec =
     loop-holds
     add-r
     mul-r
-    array-read-r
+    element-copy-out-r
     mul-r-2
     array-write-r
     add-i

@@ -1,5 +1,4 @@
-use mathlib.Core.Path.{_≡_, refl, sym, ap, _∙_}
-use mathlib.Core.List.{List}
+use mathlib.Core.Path.{_≡_, sym, ap, _∙_}
 use Prim.Native.Nat.{ℕ, _*_, _-_, _<_, _≤_}
 use native.Mathlib.Omega.{arith}
 use lib.ListN.{length}
@@ -20,7 +19,7 @@ abbrev μ-loop : tie.MeasureT-loop
 μ-loop h₀ k₀ h k = 10 - k
 
 loop-holds : tie.Need-loop-holds Inv-loop μ-loop
-loop-holds c = (search needs, search needs, sym (layers-zero Up _))
+loop-holds c = (search needs, c .pre, sym (layers-zero Up _))
 
 sub-multiply-level : tie.Need-sub-multiply-level Inv-loop μ-loop
 sub-multiply-level c = search needs
@@ -54,7 +53,7 @@ returns : tie.Need-returns Inv-loop μ-loop
 unfolding productsOf
 returns c =
     let end : c .before .loop .k ≡ 10 = omega arith in
-    c .before .loop .inv .2 ∙ ap (λ (k : ℕ). layers Up k (c .before .before .args .l)) end
+    c .before .loop .inv .2 ∙ ap (λ (k : ℕ). layers Up k (c .before .before .args .h .now)) end
 
 pub products-spec : {M : Type 1} → statement M
 products-spec =

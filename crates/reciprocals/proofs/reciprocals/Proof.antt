@@ -21,10 +21,10 @@ lower-half-requires c κs = search needs
 
 returns : tie.Need-returns
 returns c =
-    let t = c .before .before .before .before .args .t in
+    let t = c .before .before .before .before .before .before .before .args .t in
     let size : length t ≡ degree = search needs in
-    let h = c .before .before .products .ensures ∙ ap productsOf (c .before .before .before .leaves .ensures) in
-    let r = c .before .inverses .ensures ∙ ap inversesOf h in
+    let h = c .before .before .before .before .products .ensures ∙ ap productsOf (c .before .before .before .before .before .before .leaves .ensures) in
+    let r = c .before .before .inverses .ensures ∙ ap inversesOf h in
     c .lower-half .ensures ∙ ap (drop degree) r ∙ reciprocals-are t size
 
 pub reciprocals-spec : {M : Type 1} → statement M
