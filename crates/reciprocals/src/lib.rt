@@ -6,8 +6,23 @@ ghost use mathlib.Core.Path.{_≡_};
 ghost use Prim.Native.Nat.{_≤_};
 ghost use lib.ListN.{length, drop};
 ghost use Rattle.ntt.specs.Spectrum.{degree};
-ghost use Rattle.reciprocals.specs.Reciprocals.{reciprocalsOf};
+ghost use Rattle.reciprocals.specs.Reciprocals.{hasZero, reciprocalsOf};
 ghost use Rattle.reciprocals.specs.Tree.{leavesOf, multipliedLevel, productsOf, invertedLevel, inversesOf};
+
+// Whether q divides some entry: then there are no reciprocals. It looks at all of them, whatever it finds.
+pub fn has_zero(t: Spectrum) -> bool
+    ensures { λ r. ⌜ r ≡ hasZero t ⌝ }
+{
+    let mut any = false;
+    for j in 0..DEGREE {
+        if modq::reduce(t[j]) == 0 {
+            any = true;
+        }
+    }
+    any
+}
+
+// ---- the tree of products
 
 // The tree's entries: entry 0 is on no level.
 const TREE: usize = 2 * DEGREE;

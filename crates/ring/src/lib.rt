@@ -1,12 +1,13 @@
 // The ring of document 01: polynomials with coefficients modulo q = 59,393 and X^1024 = - 1, as arrays of 1,024 words by value.
 // Every word is taken as its residue modulo q, and the public functions are total. A result is built up from 1,024 zeros.
-// The reciprocals of a spectrum are those of crate reciprocals.
+// The reciprocals of a spectrum, and the test whether there are any, are those of crate reciprocals.
 use modq::Q;
 use modq::Q_I32;
 use ntt::DEGREE;
 use ntt::Element;
 use ntt::FACTORS;
 use ntt::Spectrum;
+pub use reciprocals::has_zero;
 pub use reciprocals::reciprocals;
 ghost use mathlib.Core.Path.{_≡_};
 ghost use mathlib.Core.Bool.{decide};
@@ -15,7 +16,6 @@ ghost use Rattle.ntt.specs.Factors.{forwardFactors, backwardFactors};
 ghost use Rattle.ring.specs.Ring.{one, sum, difference, multiple, product};
 ghost use Rattle.ring.specs.Invertible.{invertible?, inverseOf};
 ghost use Rattle.ring.specs.Centred.{centred, residue, centredRemainder, remainderOf, remainders, near?, within?};
-ghost use Rattle.ring.specs.Reciprocals.{hasZero};
 
 // ---- sums and multiples
 
@@ -129,19 +129,6 @@ pub fn is_within(a: Element, k: u16) -> bool
         }
     }
     all
-}
-
-// Whether q divides some entry. It looks at all of them, as `is_within` does.
-pub fn has_zero(t: Spectrum) -> bool
-    ensures { λ r. ⌜ r ≡ hasZero t ⌝ }
-{
-    let mut any = false;
-    for j in 0..DEGREE {
-        if modq::reduce(t[j]) == 0 {
-            any = true;
-        }
-    }
-    any
 }
 
 // ---- products and inverses, by the transform. The tables of factors are lent, so that a caller makes them once.

@@ -6,17 +6,17 @@ use native.Mathlib.Omega.{arith}
 use lib.ListN.{length}
 use borrow.Author.Needs.{needs}
 use Rattle.lists.proofs.Scan.{Scanned, scanned-none, scanned-pass, scanned-fail}
+use Rattle.ntt.specs.Spectrum.{degree}
+use Rattle.reciprocals.specs.Reciprocals.{nonzero?}
 use Rattle.reciprocals.proofs.HasZero.{nonzero-true, nonzero-false, zero-scanned}
-use Rattle.ring.specs.Ring.{n}
-use Rattle.ring.specs.Reciprocals.{nonzero?}
-use Rattle.ring.proofs.has_zero.Statement.{statement}
-use Rattle.ring.proofs.has_zero.Tie as tie
+use Rattle.reciprocals.proofs.has_zero.Statement.{statement}
+use Rattle.reciprocals.proofs.has_zero.Tie as tie
 
 abbrev Inv-loop : tie.InvT-loop
 Inv-loop t any₀ j₀ any j = Scanned nonzero? t (not any) j
 
 abbrev μ-loop : tie.MeasureT-loop
-μ-loop t any₀ j₀ any j = n - j
+μ-loop t any₀ j₀ any j = degree - j
 
 loop-holds : tie.Need-loop-holds Inv-loop μ-loop
 loop-holds c = scanned-none _ _
@@ -40,7 +40,7 @@ loop-again : tie.Need-loop-again Inv-loop μ-loop
 loop-again c =
     let at = c .before .before .before in
     let inv = at .loop .inv in
-    let size : length (at .before .args .t1) ≡ n = search needs in
+    let size : length (at .before .args .t1) ≡ degree = search needs in
     let residue = sym (c .before .reduce .ensures) in
     ⊎-elim
     (λ w. rw (w .1) (scanned-fail inv (omega arith) (nonzero-false _ (residue ∙ w .0 .taken))))
@@ -51,7 +51,7 @@ returns : tie.Need-returns Inv-loop μ-loop
 returns c =
     let at = c .before in
     let t = at .before .args .t1 in
-    let size : length t ≡ n = search needs in
+    let size : length t ≡ degree = search needs in
     zero-scanned t (at .loop .inv) (omega arith)
 
 pub has-zero-spec : {M : Type 1} → statement M
