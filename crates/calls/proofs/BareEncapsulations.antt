@@ -4,8 +4,8 @@ use mathlib.Core.List.{List}
 use Prim.Native.Nat.{ℕ}
 use lib.ListN.{length}
 use Rattle.scheme.specs.Scheme.{Triple, masked}
-use Rattle.records.specs.declared.Answer.the-variants.{Done}
-use Rattle.records.specs.Answers.{number}
+use Rattle.answers.specs.declared.Answer.the-variants.{Done}
+use Rattle.answers.specs.Answers.{number}
 use Rattle.records.specs.Layout.{encapsulationLength, tripleLength}
 use Rattle.records.specs.Triple.{tripleBytes}
 use Rattle.records.specs.Records.{firstOf, secondOf, c1Of, c2Of}
@@ -14,7 +14,7 @@ use Rattle.records.specs.Triple.{tripleOf}
 use Rattle.calls.specs.Calls.{encapsulateAnswer, encapsulatedWith, encapsulateOut, decapsulateAnswer, decapsulateOut}
 use Rattle.records.specs.WellFormed.{WellFormedEncapsulation, WellFormedTriple}
 use Rattle.calls.specs.Promises.{Accepted, PublicOf, Bytes}
-use Rattle.records.proofs.AnswerLaws.{on-done}
+use Rattle.answers.proofs.AnswerLaws.{on-done}
 use Rattle.records.proofs.RecordLaws.{triple-done}
 use Rattle.records.proofs.WrittenRecords.{length-encapsulation, encapsulation-c1, encapsulation-c2}
 use Rattle.records.proofs.WrittenTriples.{triple-bytes}

@@ -4,15 +4,15 @@ use mathlib.Core.Logic.{_↔_, Iff·rfl, Iff·trans, Iff·and}
 use mathlib.Core.List.{List}
 use Prim.Native.Nat.{ℕ}
 use Rattle.ring.specs.Ring.{Invertible}
-use Rattle.records.specs.declared.Answer.the-variants.{Done}
-use Rattle.records.specs.Answers.{number}
+use Rattle.answers.specs.declared.Answer.the-variants.{Done}
+use Rattle.answers.specs.Answers.{number}
 use Rattle.records.specs.Records.{secondOf}
 use Rattle.keys.specs.Keys.{secretAnswer}
 use Rattle.calls.specs.Calls.{checkAnswer}
 use Rattle.records.specs.WellFormed.{WellFormedKey}
 use Rattle.calls.specs.Promises.{Accepted, CheckExact}
 use Rattle.keys.specs.Keys.{elementsOf, Matches}
-use Rattle.records.proofs.AnswerLaws.{number-done}
+use Rattle.answers.proofs.AnswerLaws.{number-done}
 use Rattle.keys.proofs.KeyLaws.{secret-done}
 use Rattle.calls.proofs.WhenDone.{check-done}
 

@@ -9,9 +9,9 @@ use Rattle.ring.specs.Ring.{Element}
 use Rattle.ring.specs.Invertible.{inverseOf}
 use Rattle.scheme.specs.Scheme.{Triple, Outcome, found, setting}
 use Rattle.scheme.proofs.Steps.{triple-same}
-use Rattle.records.specs.declared.Refusal.the-variants.{WrongLength}
-use Rattle.records.specs.declared.Answer.{Answer}
-use Rattle.records.specs.Answers.{number, onDone}
+use Rattle.answers.specs.declared.Refusal.the-variants.{WrongLength}
+use Rattle.answers.specs.declared.Answer.{Answer}
+use Rattle.answers.specs.Answers.{number, onDone}
 use Rattle.records.specs.Triple.{tripleBytes}
 use Rattle.records.specs.Layout.{tripleLength}
 use Rattle.records.specs.Records.{firstOf, secondOf, c1Of, c2Of}
@@ -21,7 +21,7 @@ use Rattle.keys.specs.Keys.{KeyElements, elementsOf}
 use Rattle.calls.specs.Calls.{outcome, outcomeAnswer, outcomeBytes, decapsulateAnswer, decapsulateOut}
 use Rattle.records.specs.WellFormed.{WellFormedEncapsulation, WellFormedTriple}
 use Rattle.calls.specs.Promises.{Accepted, Ternaries, Decapsulated, DecapsulateExact}
-use Rattle.records.proofs.AnswerLaws.{unless-passed, then-passed}
+use Rattle.answers.proofs.AnswerLaws.{unless-passed, then-passed}
 use Rattle.records.proofs.RecordLaws.{encapsulation-done, triple-done}
 use Rattle.records.proofs.WrittenTriples.{triple-r, triple-e1, triple-e2}
 use Rattle.calls.proofs.Lengths.{decapsulate-fits}

@@ -6,7 +6,7 @@ use Rattle.exactness.proofs.Elements as E
 use Rattle.ring.specs.Ring.{Element}
 use Rattle.scheme.specs.Scheme.{Triple, setting, masked}
 use Rattle.scheme.proofs.Givens.{givens}
-use Rattle.records.specs.declared.Answer.the-variants.{Done}
+use Rattle.answers.specs.declared.Answer.the-variants.{Done}
 use Rattle.records.specs.Records.{firstOf, secondOf}
 use Rattle.keys.specs.Keys.{publicAnswer}
 use Rattle.calls.specs.Promises.{Accepted, Ternaries, Encapsulates, PublicOf}

@@ -15,15 +15,15 @@ use Rattle.sampling.specs.Noise.{ternaryNoise}
 use Rattle.sampling.specs.Stream.{uniformElement}
 use Rattle.sampling.proofs.NoiseLaws.{ternaryNoise-ternary}
 use Rattle.sampling.proofs.Streams.{uniform-element}
-use Rattle.records.specs.declared.Answer.the-variants.{Done}
-use Rattle.records.specs.Answers.{number}
+use Rattle.answers.specs.declared.Answer.the-variants.{Done}
+use Rattle.answers.specs.Answers.{number}
 use Rattle.records.specs.Records.{firstOf, secondOf, codesPart, secretOf, recordBytes}
 use Rattle.keys.specs.Keys.{publicAnswer, keygenB}
 use Rattle.calls.specs.Calls.{keygenAnswer, newPublicKey, newSecretKey, keygenPublic, keygenSecret}
 use Rattle.records.specs.WellFormed.{WellFormedFront, WellFormedKey}
 use Rattle.calls.specs.Promises.{Accepted, PublicOf}
 use Rattle.keys.specs.Keys.{elementsOf, Matches}
-use Rattle.records.proofs.AnswerLaws.{number-done, on-done}
+use Rattle.answers.proofs.AnswerLaws.{number-done, on-done}
 use Rattle.records.specs.Layout.{publicKeyMark, secretKeyMark}
 use Rattle.records.proofs.Writing.{length-recordBytes}
 use Rattle.records.proofs.WrittenRecords.{length-both, part-end, record-first, record-second, record-well-formed}

@@ -10,9 +10,9 @@ use Rattle.ring.specs.Ring.{Invertible}
 use Rattle.scheme.specs.Scheme.{Outcome, found, failed}
 use Rattle.encoding.specs.Codes.{firstInvalidCode}
 use Rattle.derivation.specs.Derivation.{genuine?}
-use Rattle.records.specs.declared.Refusal.the-variants.{WrongLength, TagMismatch}
-use Rattle.records.specs.declared.Answer.{Answer}
-use Rattle.records.specs.Answers.{number, unless, andThen}
+use Rattle.answers.specs.declared.Refusal.the-variants.{WrongLength, TagMismatch}
+use Rattle.answers.specs.declared.Answer.{Answer}
+use Rattle.answers.specs.Answers.{number, unless, andThen}
 use Rattle.records.specs.Records.{firstOf, secondOf, codesPart, bodyPart, tagPart, c1Of, c2Of}
 use Rattle.keys.specs.Keys.{elementsOf, publicAnswer, secretAnswer, noiseTriple}
 use Rattle.calls.specs.Calls.{checkAnswer, keygenAnswer, outcome, outcomeAnswer, openedAnswer}
@@ -21,7 +21,7 @@ use Rattle.records.specs.Triple.{tripleOf}
 use Rattle.calls.specs.Calls.{encapsulateAnswer, decapsulateAnswer, sealAnswer, openAnswer}
 use Rattle.records.specs.WellFormed.{WellFormedFront, WellFormedKey}
 use Rattle.calls.specs.Promises.{NotInvertibleExact}
-use Rattle.records.proofs.AnswerLaws.{Never, unless-never, done-never, then-never, unless-says, then-refuses}
+use Rattle.answers.proofs.AnswerLaws.{Never, unless-never, done-never, then-never, unless-says, then-refuses}
 use Rattle.records.proofs.RecordLaws.{record-never, encapsulation-never, triple-never}
 use Rattle.calls.proofs.Lengths.{one-fits, keygen-fits, encapsulate-fits, decapsulate-fits, seal-fits, open-fits}
 use Rattle.keys.proofs.KeyLaws.{generated-refused, public-refused, secret-refused}

@@ -10,17 +10,17 @@ use Rattle.ring.specs.Ring.{Element}
 use Rattle.ring.specs.Invertible.{inverseOf}
 use Rattle.scheme.specs.Scheme.{Triple, Outcome, found, setting}
 use Rattle.derivation.specs.Derivation.{tagOf, entryOf}
-use Rattle.records.specs.declared.Refusal.the-variants.{WrongLength}
-use Rattle.records.specs.declared.Answer.{Answer}
-use Rattle.records.specs.declared.Answer.the-variants.{Done}
-use Rattle.records.specs.Answers.{number, onDone}
+use Rattle.answers.specs.declared.Refusal.the-variants.{WrongLength}
+use Rattle.answers.specs.declared.Answer.{Answer}
+use Rattle.answers.specs.declared.Answer.the-variants.{Done}
+use Rattle.answers.specs.Answers.{number, onDone}
 use Rattle.records.specs.Layout.{sealedEntryMark, blockLength}
 use Rattle.records.specs.Records.{firstOf, secondOf, bodyPart, tagPart}
 use Rattle.keys.specs.Keys.{KeyElements, elementsOf, tripleNoiseLength, noiseTriple}
 use Rattle.calls.specs.Calls.{outcome, openedAnswer, openedEntry, openAnswer, openOut}
 use Rattle.records.specs.WellFormed.{WellFormedEntry}
 use Rattle.calls.specs.Promises.{Accepted, Ternaries, Opened, OpenExact}
-use Rattle.records.proofs.AnswerLaws.{unless-passed, then-passed, on-done, on-refusal}
+use Rattle.answers.proofs.AnswerLaws.{unless-passed, then-passed, on-done, on-refusal}
 use Rattle.records.proofs.RecordLaws.{record-done}
 use Rattle.calls.proofs.Lengths.{open-fits}
 use Rattle.calls.proofs.CheckExact.{accepted-iff, accepted-done}

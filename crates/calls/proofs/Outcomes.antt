@@ -14,15 +14,15 @@ use Rattle.scheme.proofs.Exactness.{exact, sound-key, found-ternary}
 use Rattle.encoding.proofs.Codes.{ternaryOf-ternary}
 use Rattle.sampling.proofs.NoiseLaws.{ternaryNoise-ternary}
 use Rattle.derivation.specs.Derivation.{tagOf, genuine?}
-use Rattle.records.specs.declared.Refusal.the-variants.{TagMismatch}
-use Rattle.records.specs.declared.Answer.the-variants.{Done}
-use Rattle.records.specs.Answers.{number, unless}
+use Rattle.answers.specs.declared.Refusal.the-variants.{TagMismatch}
+use Rattle.answers.specs.declared.Answer.the-variants.{Done}
+use Rattle.answers.specs.Answers.{number, unless}
 use Rattle.records.specs.Records.{firstOf, secondOf, secretOf}
 use Rattle.records.specs.Triple.{tripleOf}
 use Rattle.keys.specs.Keys.{KeyElements, elementsOf, noiseTriple}
 use Rattle.calls.specs.Calls.{outcome, outcomeAnswer, openedAnswer}
 use Rattle.calls.specs.Promises.{Accepted, Ternaries}
-use Rattle.records.proofs.AnswerLaws.{unless-refuses}
+use Rattle.answers.proofs.AnswerLaws.{unless-refuses}
 use Rattle.derivation.proofs.Laws.{genuine-iff}
 use Rattle.calls.proofs.CheckExact.{accepted-iff}
 

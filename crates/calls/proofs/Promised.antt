@@ -3,7 +3,7 @@ use mathlib.Core.Path.{_≡_}
 use mathlib.Core.List.{List}
 use Prim.Native.Nat.{ℕ}
 use lib.ListN.{length}
-use Rattle.records.specs.Answers.{number}
+use Rattle.answers.specs.Answers.{number}
 use Rattle.calls.specs.Calls.{checkAnswer, decapsulateAnswer, decapsulateOut, openAnswer, openOut}
 use Rattle.calls.specs.Promises.{CheckExact, DecapsulateExact, OpenExact}
 use Rattle.calls.proofs.CheckExact.{check-exact}

@@ -7,14 +7,14 @@ use native.Mathlib.Omega.{arith}
 use Rattle.scheme.specs.Scheme.{Triple, masked}
 use Rattle.gf128.specs.Bytes.{Block}
 use Rattle.derivation.specs.Derivation.{bodyOf, tagOf, entryOf}
-use Rattle.records.specs.declared.Answer.the-variants.{Done}
-use Rattle.records.specs.Answers.{number}
+use Rattle.answers.specs.declared.Answer.the-variants.{Done}
+use Rattle.answers.specs.Answers.{number}
 use Rattle.records.specs.Records.{firstOf, secondOf, bodyPart, tagPart, recordBytes}
 use Rattle.keys.specs.Keys.{tripleNoiseLength, noiseTriple}
 use Rattle.calls.specs.Calls.{sealAnswer, sealedWith, sealedBytes, sealOut, openAnswer, openOut}
 use Rattle.records.specs.WellFormed.{WellFormedEntry}
 use Rattle.calls.specs.Promises.{Accepted, PublicOf}
-use Rattle.records.proofs.AnswerLaws.{on-done}
+use Rattle.answers.proofs.AnswerLaws.{on-done}
 use Rattle.records.specs.Layout.{sealedEntryMark, sealedEntryLength, tagPlace, blockLength}
 use Rattle.records.proofs.Writing.{length-recordBytes}
 use Rattle.records.proofs.WrittenRecords.{length-both, part-behind, part-end, record-first, record-second, record-well-formed}

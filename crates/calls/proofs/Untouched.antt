@@ -1,6 +1,6 @@
 -- Under any number but 0 the outputs are as they came.
 use lib.ListN.{length}
-use Rattle.records.proofs.AnswerLaws.{on-refusal}
+use Rattle.answers.proofs.AnswerLaws.{on-refusal}
 use Rattle.calls.specs.Calls.{keygenAnswer, keygenPublic, keygenSecret, encapsulateAnswer, encapsulateOut, decapsulateAnswer, decapsulateOut}
 use Rattle.calls.specs.Calls.{sealAnswer, sealOut, openAnswer, openOut}
 use Rattle.calls.specs.Promises.{Untouched}

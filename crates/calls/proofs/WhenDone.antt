@@ -7,10 +7,10 @@ use Prim.Native.Nat.{ℕ}
 use lib.ListN.{length}
 use Rattle.ring.specs.Ring.{Invertible}
 use Rattle.sampling.specs.Stream.{taken}
-use Rattle.records.specs.declared.Refusal.the-variants.{WrongLength}
-use Rattle.records.specs.declared.Answer.{Answer}
-use Rattle.records.specs.declared.Answer.the-variants.{Done}
-use Rattle.records.specs.Answers.{unless}
+use Rattle.answers.specs.declared.Refusal.the-variants.{WrongLength}
+use Rattle.answers.specs.declared.Answer.{Answer}
+use Rattle.answers.specs.declared.Answer.the-variants.{Done}
+use Rattle.answers.specs.Answers.{unless}
 use Rattle.records.specs.Records.{firstOf, secondOf, bodyPart, tagPart, recordAnswer, c1Of, c2Of, encapsulationAnswer}
 use Rattle.records.specs.Triple.{tripleAnswer}
 use Rattle.keys.specs.Keys.{elementsOf, publicAnswer, secretAnswer, keygenB, noiseTriple}
@@ -18,7 +18,7 @@ use Rattle.calls.specs.Calls.{checkAnswer, keygenAnswer, outcome, outcom
 use Rattle.records.specs.Layout.{sealedEntryMark}
 use Rattle.records.specs.Triple.{tripleOf}
 use Rattle.calls.specs.Calls.{encapsulateAnswer, decapsulateAnswer, sealAnswer, openAnswer}
-use Rattle.records.proofs.AnswerLaws.{unless-done, then-done}
+use Rattle.answers.proofs.AnswerLaws.{unless-done, then-done}
 use Rattle.calls.proofs.Lengths.{one-fits, keygen-fits, encapsulate-fits, decapsulate-fits, seal-fits, open-fits}
 use Rattle.keys.proofs.KeyLaws.{generated-done}
 

@@ -12,10 +12,10 @@ use Rattle.scheme.specs.Scheme.{Triple, Outcome, found, failed, masked, decapsu
 use Rattle.sampling.specs.Noise.{noiseLength, ternaryNoise}
 use Rattle.sampling.specs.Stream.{streamLength, uniformElement}
 use Rattle.derivation.specs.Derivation.{bodyOf, tagOf, genuine?, entryOf}
-use Rattle.records.specs.declared.Refusal.the-variants as Refusal
-use Rattle.records.specs.declared.Answer.{Answer}
-use Rattle.records.specs.declared.Answer.the-variants.{Done, Refused}
-use Rattle.records.specs.Answers.{unless, andThen, onDone}
+use Rattle.answers.specs.declared.Refusal.the-variants as Refusal
+use Rattle.answers.specs.declared.Answer.{Answer}
+use Rattle.answers.specs.declared.Answer.the-variants.{Done, Refused}
+use Rattle.answers.specs.Answers.{unless, andThen, onDone}
 use Rattle.records.specs.Layout.{sealedEntryMark, publicKeyLength, secretKeyLength, sealedEntryLength, encapsulationLength, tripleLength, blockLength}
 use Rattle.records.specs.Records.{firstOf, secondOf, bodyPart, tagPart, recordAnswer, publicKeyBytes, secretKeyBytes, sealedEntryBytes}
 use Rattle.records.specs.Records.{c1Of, c2Of, encapsulationAnswer, encapsulationBytes}

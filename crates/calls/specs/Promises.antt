@@ -15,7 +15,7 @@ use Rattle.sampling.specs.Noise.{noiseLength}
 use Rattle.sampling.specs.Stream.{streamLength, taken}
 use Rattle.records.specs.Triple.{tripleBytes}
 use Rattle.derivation.specs.Derivation.{tagOf, entryOf}
-use Rattle.records.specs.Answers.{number}
+use Rattle.answers.specs.Answers.{number}
 use Rattle.records.specs.Layout.{publicKeyMark, secretKeyMark, publicKeyLength, secretKeyLength, sealedEntryLength, encapsulationLength, tripleLength, blockLength}
 use Rattle.records.specs.Records.{firstOf, secondOf, codesPart, bodyPart, tagPart, c1Of, c2Of}
 use Rattle.records.specs.WellFormed.{WellFormedFront, WellFormedPublicKey, WellFormedKey, WellFormedEntry, WellFormedEncapsulation, WellFormedTriple}

@@ -12,11 +12,11 @@ use Rattle.lists.specs.Table.{zeros}
 use Rattle.hex.specs.Hex.{textOf}
 use Rattle.text.specs.Text.{written, digitsOf, decimal}
 use Rattle.text.proofs.Decimals.{length-digits}
-use Rattle.records.specs.declared.Refusal.{Refusal}
-use Rattle.records.specs.declared.Refusal.the-variants.{WrongLength}
-use Rattle.records.specs.declared.Answer.{Answer}
-use Rattle.records.specs.declared.Answer.the-variants.{Done, Refused}
-use Rattle.records.specs.Answers.{number, unless}
+use Rattle.answers.specs.declared.Refusal.{Refusal}
+use Rattle.answers.specs.declared.Refusal.the-variants.{WrongLength}
+use Rattle.answers.specs.declared.Answer.{Answer}
+use Rattle.answers.specs.declared.Answer.the-variants.{Done, Refused}
+use Rattle.answers.specs.Answers.{number, unless}
 use Rattle.calls.specs.Calls.{openAnswer}
 use Rattle.desk_line.specs.Line.{keyPart, sealedPart, dummyPart, deskAnswer, deskEntry, shown, lineOf, deskLine}
 

@@ -6,10 +6,10 @@ use lib.ListN.{length}
 use Rattle.lists.specs.Table.{zeros}
 use Rattle.hex.specs.Hex.{textOf}
 use Rattle.text.specs.Text.{decimal}
-use Rattle.records.specs.declared.Refusal.the-variants.{WrongLength}
-use Rattle.records.specs.declared.Answer.{Answer}
-use Rattle.records.specs.declared.Answer.the-variants.{Done, Refused}
-use Rattle.records.specs.Answers.{number, unless}
+use Rattle.answers.specs.declared.Refusal.the-variants.{WrongLength}
+use Rattle.answers.specs.declared.Answer.{Answer}
+use Rattle.answers.specs.declared.Answer.the-variants.{Done, Refused}
+use Rattle.answers.specs.Answers.{number, unless}
 use Rattle.records.specs.Layout.{secretKeyLength, sealedEntryLength, blockLength}
 use Rattle.records.specs.Records.{part}
 use Rattle.keys.specs.Keys.{tripleNoiseLength}

@@ -1,6 +1,6 @@
 // What the desk program prints, from what it read.
 use keys::TRIPLE_NOISE_LENGTH;
-use records::Answer;
+use answers::Answer;
 use records::BLOCK_LENGTH;
 use records::SEALED_ENTRY_LENGTH;
 use records::SECRET_KEY_LENGTH;
@@ -78,5 +78,5 @@ pub fn line(input: &[u8]) -> Text
     if let Answer::Done = answer {
         return entry_line(entry);
     }
-    refusal_line(records::number(answer))
+    refusal_line(answers::number(answer))
 }

@@ -1,15 +1,15 @@
 // The calls that make and check keys. Buffers may have any length; under any answer but Done every output is as it came.
 use ntt::Element;
 use ntt::FACTORS;
-use records::Answer;
+use answers::Answer;
 use records::PUBLIC_KEY_LENGTH;
-use records::Refusal;
+use answers::Refusal;
 use records::SECRET_KEY_LENGTH;
 use sampling::NOISE_LENGTH;
 use sampling::STREAM_LENGTH;
 ghost use mathlib.Core.Path.{_≡_};
 ghost use lib.ListN.{length};
-ghost use Rattle.records.specs.Answers.{number, onDone};
+ghost use Rattle.answers.specs.Answers.{number, onDone};
 ghost use Rattle.records.specs.Layout.{publicKeyLength, secretKeyLength};
 ghost use Rattle.records.specs.Records.{publicKeyBytes, secretKeyBytes};
 ghost use Rattle.calls.specs.Calls.{checkAnswer, keygenAnswer, keygenPublic, keygenSecret};

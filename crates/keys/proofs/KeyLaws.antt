@@ -13,15 +13,15 @@ use Rattle.scheme.specs.Answers.{verdict}
 use Rattle.scheme.proofs.Keys.{key-check}
 use Rattle.encoding.specs.Codes.{firstInvalidCode}
 use Rattle.sampling.specs.Stream.{taken}
-use Rattle.records.specs.declared.Refusal.the-variants as Refusal
-use Rattle.records.specs.declared.Answer.the-variants.{Done}
-use Rattle.records.specs.Answers.{number, unless}
+use Rattle.answers.specs.declared.Refusal.the-variants as Refusal
+use Rattle.answers.specs.declared.Answer.the-variants.{Done}
+use Rattle.answers.specs.Answers.{number, unless}
 use Rattle.records.specs.Layout.{publicKeyMark, secretKeyMark}
 use Rattle.records.specs.Records.{firstOf, secondOf, codesPart, secretOf}
 use Rattle.keys.specs.Keys.{publicAnswer, verdictAnswer, secretAnswer, keygenB, generatedAnswer}
 use Rattle.records.specs.WellFormed.{WellFormedFront}
 use Rattle.keys.specs.Keys.{elementsOf, Matches}
-use Rattle.records.proofs.AnswerLaws.{not-done, unless-done, then-done, then-says, unless-refuses, unless-never, done-never}
+use Rattle.answers.proofs.AnswerLaws.{not-done, unless-done, then-done, then-says, unless-refuses, unless-never, done-never}
 use Rattle.records.proofs.RecordLaws.{equal-done, record-done, codes-done, record-never, codes-never}
 
 -- ---- 6, where it is the last check

@@ -13,10 +13,10 @@ use Rattle.scheme.specs.declared.KeyCheck.{KeyCheck}
 use Rattle.scheme.specs.declared.KeyCheck.the-variants.{Sound, NotInvertible, KeyMismatch}
 use Rattle.sampling.specs.Noise.{noiseLength, ternaryNoise}
 use Rattle.sampling.specs.Stream.{taken, uniformElement}
-use Rattle.records.specs.declared.Refusal.the-variants as Refusal
-use Rattle.records.specs.declared.Answer.{Answer}
-use Rattle.records.specs.declared.Answer.the-variants.{Done, Refused}
-use Rattle.records.specs.Answers.{unless, andThen}
+use Rattle.answers.specs.declared.Refusal.the-variants as Refusal
+use Rattle.answers.specs.declared.Answer.{Answer}
+use Rattle.answers.specs.declared.Answer.the-variants.{Done, Refused}
+use Rattle.answers.specs.Answers.{unless, andThen}
 use Rattle.records.specs.Layout.{publicKeyMark, secretKeyMark}
 use Rattle.records.specs.Records.{part, firstOf, secondOf, codesPart, secretOf, recordAnswer, codesAnswer}
 

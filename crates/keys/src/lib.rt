@@ -4,9 +4,9 @@ use ntt::DEGREE;
 use ntt::Element;
 use ntt::FACTORS;
 use ntt::Spectrum;
-use records::Answer;
+use answers::Answer;
 use records::PUBLIC_KEY_MARK;
-use records::Refusal;
+use answers::Refusal;
 use records::SECRET_KEY_LENGTH;
 use records::SECRET_KEY_MARK;
 use records::THIRD;
@@ -46,9 +46,9 @@ pub fn read_public_key(bytes: &[u8], forward: &[u16]) -> PublicKey
     let key = scheme::public_key(first, second, forward);
     let a = key.a;
     let b = key.b;
-    let invertible = records::unless(key.invertible, Refusal::NotInvertible);
+    let invertible = answers::unless(key.invertible, Refusal::NotInvertible);
     PublicKey {
-        answer: records::and_then(record, invertible),
+        answer: answers::and_then(record, invertible),
         a,
         b,
     }
@@ -95,7 +95,7 @@ pub fn read_secret_key(bytes: &[u8], forward: &[u16], backward: &[u16]) -> Secre
     let b = checked.b;
     let s = checked.s;
     SecretKey {
-        answer: records::and_then(record, records::and_then(codes, verdict)),
+        answer: answers::and_then(record, answers::and_then(codes, verdict)),
         a,
         b,
         s,
@@ -122,15 +122,15 @@ pub fn generate(stream: &[u8], s: &[u8], e: &[u8]) -> NewKey
     ntt::forward_factors(&mut forward);
     ntt::backward_factors(&mut backward);
     let u = sampling::uniform(stream);
-    let enough = records::unless(u.count == DEGREE, Refusal::StreamExhausted);
+    let enough = answers::unless(u.count == DEGREE, Refusal::StreamExhausted);
     let a = u.value;
     let secret = sampling::ternary(s);
     let noise = sampling::ternary(e);
     let g = scheme::generate(a, secret, noise, &forward, &backward);
-    let invertible = records::unless(g.invertible, Refusal::NotInvertible);
+    let invertible = answers::unless(g.invertible, Refusal::NotInvertible);
     let b = g.b;
     NewKey {
-        answer: records::and_then(enough, invertible),
+        answer: answers::and_then(enough, invertible),
         a,
         b,
         s: secret,

@@ -1,9 +1,9 @@
 // Makes a key. Standard input is 3,712 random bytes: the stream (2,688), the noise of s (512) and the noise of e (512). Standard
 // output is the public key (4,101 bytes) and, behind it, the secret key (4,357). A refusal writes its number to standard error and
 // nothing else. The exit status is always 0, since the language has no other.
-use records::Answer;
+use answers::Answer;
 use records::PUBLIC_KEY_LENGTH;
-use records::Refusal;
+use answers::Refusal;
 use records::SECRET_KEY_LENGTH;
 use sampling::NOISE_LENGTH;
 use sampling::STREAM_LENGTH;
@@ -13,7 +13,7 @@ ghost use Prim.Native.Nat.{_+_, _≤_};
 ghost use lib.ListN.{length, take};
 ghost use Rattle.lists.specs.Table.{zeros};
 ghost use Rattle.text.specs.Text.{written};
-ghost use Rattle.records.specs.Answers.{onDone};
+ghost use Rattle.answers.specs.Answers.{onDone};
 ghost use Rattle.records.specs.Layout.{publicKeyLength, secretKeyLength};
 ghost use Rattle.make_key.specs.MakeKey.{inputLength, makeKeyAnswer, publicKey, secretKey, standardOutput, standardError};
 use libc::STDERR_FILENO;

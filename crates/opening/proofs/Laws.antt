@@ -18,12 +18,12 @@ use Rattle.encoding.proofs.Words.{length-elementOf}
 use Rattle.encoding.proofs.Codes.{length-ternaryOf}
 use Rattle.records.specs.Triple.{tripleBytes}
 use Rattle.derivation.specs.Derivation.{genuine?, entryOf, verifiedEntry}
-use Rattle.records.specs.declared.Refusal.{Refusal}
-use Rattle.records.specs.declared.Refusal.the-variants.{DecapsulationFailure, TagMismatch}
-use Rattle.records.specs.declared.Answer.{Answer}
+use Rattle.answers.specs.declared.Refusal.{Refusal}
+use Rattle.answers.specs.declared.Refusal.the-variants.{DecapsulationFailure, TagMismatch}
+use Rattle.answers.specs.declared.Answer.{Answer}
 use Rattle.records.specs.declared.Elements.{Elements}
-use Rattle.records.specs.declared.Answer.the-variants.{Done, Refused}
-use Rattle.records.specs.Answers.{unless, andThen, onDone}
+use Rattle.answers.specs.declared.Answer.the-variants.{Done, Refused}
+use Rattle.answers.specs.Answers.{unless, andThen, onDone}
 use Rattle.calls.specs.Calls.{outcome, outcomeAnswer, outcomeBytes, openedAnswer, openedEntry}
 use Rattle.keys.specs.Keys.{KeyElements, elementsOf}
 use Rattle.keys.specs.declared.SecretKey.{SecretKey}

@@ -1,10 +1,10 @@
 // The calls of a desk that open, which is lent a secret key. Buffers may have any length; under any answer but Done every output is as it came.
 use keys::TRIPLE_NOISE_LENGTH;
 use ntt::FACTORS;
-use records::Answer;
+use answers::Answer;
 use records::BLOCK_LENGTH;
 use records::ENCAPSULATION_LENGTH;
-use records::Refusal;
+use answers::Refusal;
 use records::SEALED_ENTRY_LENGTH;
 use records::SECRET_KEY_LENGTH;
 use records::TRIPLE_LENGTH;
@@ -13,7 +13,7 @@ use recovery::Opened;
 use scheme::Triple;
 ghost use mathlib.Core.Path.{_≡_};
 ghost use lib.ListN.{length};
-ghost use Rattle.records.specs.Answers.{number, onDone};
+ghost use Rattle.answers.specs.Answers.{number, onDone};
 ghost use Rattle.records.specs.Layout.{secretKeyLength, sealedEntryLength, encapsulationLength, tripleLength, blockLength};
 ghost use Rattle.records.specs.Records.{bodyPart, tagPart};
 ghost use Rattle.records.specs.Triple.{tripleBytes};

@@ -3,7 +3,7 @@
 ghost use mathlib.Core.Path.{_≡_};
 ghost use lib.ListN.{length};
 ghost use Rattle.shake.specs.Shake.{shake256};
-ghost use Rattle.records.specs.Answers.{number};
+ghost use Rattle.answers.specs.Answers.{number};
 ghost use Rattle.calls.specs.Calls.{checkAnswer, keygenAnswer, keygenPublic, keygenSecret, encapsulateAnswer, encapsulateOut};
 ghost use Rattle.calls.specs.Calls.{decapsulateAnswer, decapsulateOut, sealAnswer, sealOut, openAnswer, openOut};
 ghost use Rattle.calls.specs.Promises.{CheckExact, DecapsulateExact, OpenExact};
@@ -21,7 +21,7 @@ pub extern "C" fn polka_keygen(
     ensures { λ _. ⌜ now (secret .exit) ≡ keygenSecret (now (stream .entry)) (now (s .entry)) (now (e .entry)) (now (public .entry)) (now (secret .entry)) ⌝ }
 {
     let answer = key_calls::keygen(stream, s, e, public, secret);
-    records::number(answer)
+    answers::number(answer)
 }
 
 #[no_mangle]
@@ -30,7 +30,7 @@ pub extern "C" fn polka_check_secret_key(key: &[u8]) -> u32
     ensures { λ n. ⌜ CheckExact (now (key .entry)) n ⌝ }
 {
     let answer = key_calls::check_secret_key(key);
-    records::number(answer)
+    answers::number(answer)
 }
 
 #[no_mangle]
@@ -39,7 +39,7 @@ pub extern "C" fn polka_encapsulate(key: &[u8], triple: &[u8], out: &mut [u8]) -
     ensures { λ _. ⌜ now (out .exit) ≡ encapsulateOut (now (key .entry)) (now (triple .entry)) (now (out .entry)) ⌝ }
 {
     let answer = sealing::encapsulate(key, triple, out);
-    records::number(answer)
+    answers::number(answer)
 }
 
 #[no_mangle]
@@ -54,7 +54,7 @@ pub extern "C" fn polka_decapsulate(
     ensures { λ n. ⌜ DecapsulateExact (now (key .entry)) (now (encapsulation .entry)) (now (dummy .entry)) (now (out .entry)) n (now (out .exit)) ⌝ }
 {
     let answer = opening::decapsulate(key, encapsulation, dummy, out);
-    records::number(answer)
+    answers::number(answer)
 }
 
 #[no_mangle]
@@ -63,7 +63,7 @@ pub extern "C" fn polka_seal(key: &[u8], noise: &[u8], entry: &[u8], out: &mut [
     ensures { λ _. ⌜ now (out .exit) ≡ sealOut (now (key .entry)) (now (noise .entry)) (now (entry .entry)) (now (out .entry)) ⌝ }
 {
     let answer = sealing::seal(key, noise, entry, out);
-    records::number(answer)
+    answers::number(answer)
 }
 
 #[no_mangle]
@@ -73,7 +73,7 @@ pub extern "C" fn polka_open(key: &[u8], sealed: &[u8], noise: &[u8], out: &mut 
     ensures { λ n. ⌜ OpenExact (now (key .entry)) (now (sealed .entry)) (now (noise .entry)) (now (out .entry)) n (now (out .exit)) ⌝ }
 {
     let answer = opening::open(key, sealed, noise, out);
-    records::number(answer)
+    answers::number(answer)
 }
 
 // SHAKE256 of `input`, as many bytes as `out` has. Both may have any length.

@@ -6,10 +6,10 @@ use Prim.Native.Nat.{ℕ}
 use lib.Dec.{eqb}
 use Rattle.encoding.specs.Words.{firstUnreduced}
 use Rattle.encoding.specs.Header.{hasMark, versionOf}
-use Rattle.records.specs.declared.Refusal.the-variants.{WrongMark, WrongVersion}
-use Rattle.records.specs.declared.Answer.{Answer}
-use Rattle.records.specs.declared.Answer.the-variants.{Done, Refused}
-use Rattle.records.specs.Answers.{unless, andThen}
+use Rattle.answers.specs.declared.Refusal.the-variants.{WrongMark, WrongVersion}
+use Rattle.answers.specs.declared.Answer.{Answer}
+use Rattle.answers.specs.declared.Answer.the-variants.{Done, Refused}
+use Rattle.answers.specs.Answers.{unless, andThen}
 use Rattle.records.specs.Records.{firstOf, secondOf, c1Of, c2Of, headerAnswer, elementsAnswer, recordAnswer, encapsulationAnswer}
 
 module _ (mark : List ℕ) (version : ℕ) (bytes : List ℕ) where

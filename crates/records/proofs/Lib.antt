@@ -1,6 +1,5 @@
 -- Laws of records.
 pub mod Checks
-pub mod AnswerLaws
 pub mod RecordLaws
 pub mod Writing
 pub mod Triples

@@ -13,15 +13,15 @@ use Rattle.encoding.specs.Words.{firstUnreduced}
 use Rattle.encoding.specs.Codes.{firstInvalidCode}
 use Rattle.encoding.specs.Header.{hasMark, versionOf}
 use Rattle.encoding.proofs.Words.{length-elementOf, unreduced-iff}
-use Rattle.records.specs.declared.Refusal.{Refusal}
-use Rattle.records.specs.declared.Refusal.the-variants.{WrongMark, WrongVersion, CoefficientOutOfRange, InvalidCode}
-use Rattle.records.specs.declared.Answer.the-variants.{Done}
-use Rattle.records.specs.Answers.{refusalNumber, unless}
+use Rattle.answers.specs.declared.Refusal.{Refusal}
+use Rattle.answers.specs.declared.Refusal.the-variants.{WrongMark, WrongVersion, CoefficientOutOfRange, InvalidCode}
+use Rattle.answers.specs.declared.Answer.the-variants.{Done}
+use Rattle.answers.specs.Answers.{refusalNumber, unless}
 use Rattle.records.specs.Records.{part, headerAnswer, wordsAnswer, codesAnswer, elementsAnswer, firstOf, secondOf, recordAnswer}
 use Rattle.records.specs.Records.{c1Of, c2Of, encapsulationAnswer}
 use Rattle.records.specs.Triple.{tripleAnswer}
 use Rattle.records.specs.WellFormed.{WellFormedFront}
-use Rattle.records.proofs.AnswerLaws.{unless-done, then-done, Never, done-never, unless-never, then-never}
+use Rattle.answers.proofs.AnswerLaws.{unless-done, then-done, Never, done-never, unless-never, then-never}
 
 -- ---- when the checks pass
 

@@ -1,5 +1,4 @@
--- Answers, and records as bytes.
-pub mod Answers
+-- Records as bytes.
 pub mod Layout
 pub mod Records
 pub mod Triple

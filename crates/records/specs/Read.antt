@@ -1,7 +1,7 @@
 -- What was read of a record.
-use Rattle.records.specs.declared.Answer.{Answer}
+use Rattle.answers.specs.declared.Answer.{Answer}
 use Rattle.records.specs.declared.Elements.{Elements}
-use Rattle.records.specs.Answers.{andThen}
+use Rattle.answers.specs.Answers.{andThen}
 use Rattle.records.specs.Records.{elementsAnswer}
 
 -- 2, 3, then 4 of its front

@@ -7,10 +7,10 @@ use Rattle.ring.specs.Ring.{n}
 use Rattle.encoding.specs.Words.{elementOf, firstUnreduced, elementBytes}
 use Rattle.encoding.specs.Codes.{ternaryOf, firstInvalidCode, ternaryBytes}
 use Rattle.encoding.specs.Header.{hasMark, versionOf, header}
-use Rattle.records.specs.declared.Refusal.the-variants.{WrongMark, WrongVersion, CoefficientOutOfRange, InvalidCode}
-use Rattle.records.specs.declared.Answer.{Answer}
-use Rattle.records.specs.declared.Answer.the-variants.{Done}
-use Rattle.records.specs.Answers.{unless, andThen}
+use Rattle.answers.specs.declared.Refusal.the-variants.{WrongMark, WrongVersion, CoefficientOutOfRange, InvalidCode}
+use Rattle.answers.specs.declared.Answer.{Answer}
+use Rattle.answers.specs.declared.Answer.the-variants.{Done}
+use Rattle.answers.specs.Answers.{unless, andThen}
 use Rattle.records.specs.Layout.{elementLength, ternaryLength, blockLength, firstPlace, secondPlace, thirdPlace, tagPlace}
 use Rattle.records.specs.Layout.{publicKeyMark, secretKeyMark, sealedEntryMark}
 

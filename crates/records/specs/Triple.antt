@@ -3,8 +3,8 @@ use mathlib.Core.List.{List, _++_}
 use Prim.Native.Nat.{ℕ}
 use Rattle.scheme.specs.Scheme.{Triple}
 use Rattle.encoding.specs.Codes.{ternaryOf, ternaryBytes}
-use Rattle.records.specs.declared.Answer.{Answer}
-use Rattle.records.specs.Answers.{andThen}
+use Rattle.answers.specs.declared.Answer.{Answer}
+use Rattle.answers.specs.Answers.{andThen}
 use Rattle.records.specs.Layout.{ternaryLength}
 use Rattle.records.specs.Records.{part, codesAnswer}
 

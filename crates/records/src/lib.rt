@@ -1,5 +1,7 @@
 // The records of document 01 as bytes: what their checks answer, in order, their parts, and how they are written.
 // The calls test every length first, so the functions here are lent buffers of the record's length.
+use answers::Answer;
+use answers::Refusal;
 use encoding::ELEMENT_LENGTH;
 use encoding::HEADER_LENGTH;
 use encoding::MARK_LENGTH;
@@ -14,8 +16,7 @@ ghost use lib.ListN.{length, drop};
 ghost use Rattle.scheme.specs.Answers as Struct;
 ghost use Rattle.encoding.specs.Words.{firstUnreduced};
 ghost use Rattle.encoding.specs.Buffers.{putFront};
-ghost use Rattle.records.specs.declared.Answer.the-variants.{Done};
-ghost use Rattle.records.specs.Answers.{refusalNumber, number, unless, andThen};
+ghost use Rattle.answers.specs.declared.Answer.the-variants.{Done};
 ghost use Rattle.records.specs.Layout.{sealedEntryMark, publicKeyLength, secretKeyLength, sealedEntryLength, encapsulationLength, tripleLength, blockLength, thirdPlace};
 ghost use Rattle.records.specs.Records.{headerAnswer, wordsAnswer, codesAnswer, elementsAnswer, firstOf, secondOf, bodyPart, tagPart, recordBytes};
 ghost use Rattle.records.specs.Read.{frontOf};
@@ -58,76 +59,7 @@ const E1: usize = TERNARY_LENGTH;
 
 const E2: usize = 2 * TERNARY_LENGTH;
 
-// ---- answers
-
-// Why a call refuses: document 01's numbers 1 to 10.
-pub enum Refusal {
-    WrongLength,
-    WrongMark,
-    WrongVersion,
-    CoefficientOutOfRange,
-    InvalidCode,
-    NotInvertible,
-    KeyMismatch,
-    StreamExhausted,
-    DecapsulationFailure,
-    TagMismatch,
-}
-
-// What a call answers.
-pub enum Answer {
-    Done,
-    Refused(Refusal),
-}
-
-fn refusal_number(r: Refusal) -> u32
-    ensures { λ n. ⌜ n ≡ refusalNumber r ⌝ }
-{
-    match r {
-        Refusal::WrongLength => 1,
-        Refusal::WrongMark => 2,
-        Refusal::WrongVersion => 3,
-        Refusal::CoefficientOutOfRange => 4,
-        Refusal::InvalidCode => 5,
-        Refusal::NotInvertible => 6,
-        Refusal::KeyMismatch => 7,
-        Refusal::StreamExhausted => 8,
-        Refusal::DecapsulationFailure => 9,
-        Refusal::TagMismatch => 10,
-    }
-}
-
-// Document 01's number of an answer.
-pub fn number(a: Answer) -> u32
-    ensures { λ n. ⌜ n ≡ number a ⌝ }
-{
-    match a {
-        Answer::Done => 0,
-        Answer::Refused(r) => refusal_number(r),
-    }
-}
-
 // ---- checks
-
-// Done where the test passes.
-pub fn unless(passes: bool, refusal: Refusal) -> Answer
-    ensures { λ a. ⌜ a ≡ unless passes refusal Done ⌝ }
-{
-    if passes {
-        return Answer::Done;
-    }
-    Answer::Refused(refusal)
-}
-
-// The first answer where it refuses, and else the second.
-pub fn and_then(first: Answer, second: Answer) -> Answer
-    ensures { λ a. ⌜ a ≡ andThen first second ⌝ }
-{
-    if let Answer::Done = first {
-        return second;
-    }
-    first
-}
 
 // Mark and version.
 fn check_header(bytes: &[u8], mark: [u8; MARK_LENGTH], version: u16) -> Answer
@@ -146,7 +78,7 @@ fn check_header(bytes: &[u8], mark: [u8; MARK_LENGTH], version: u16) -> Answer
 fn words_answer(place: usize) -> Answer
     ensures { λ a. ⌜ a ≡ wordsAnswer place ⌝ }
 {
-    unless(place == DEGREE, Refusal::CoefficientOutOfRange)
+    answers::unless(place == DEGREE, Refusal::CoefficientOutOfRange)
 }
 
 // The place of the first word that is q or more in each of two elements, 1,024 where there is none.
@@ -161,14 +93,14 @@ pub fn elements_answer(unreduced: Places) -> Answer
 {
     let one = words_answer(unreduced.first);
     let other = words_answer(unreduced.second);
-    and_then(one, other)
+    answers::and_then(one, other)
 }
 
 // Whether no code is 3.
 pub fn check_codes(bytes: &[u8]) -> Answer
     ensures { λ a. ⌜ a ≡ codesAnswer (now (bytes .entry)) ⌝ }
 {
-    unless(
+    answers::unless(
         encoding::first_invalid_code(bytes) == DEGREE,
         Refusal::InvalidCode,
     )
@@ -252,7 +184,7 @@ pub fn front_answer(read: Elements) -> Answer
     let header = read.header;
     let unreduced = read.unreduced;
     let elements = elements_answer(unreduced);
-    and_then(header, elements)
+    answers::and_then(header, elements)
 }
 
 // ---- writers
@@ -321,7 +253,7 @@ pub fn check_triple(bytes: &[u8]) -> Answer
     let r = check_codes(&bytes[0..E1]);
     let e1 = check_codes(&bytes[E1..E2]);
     let e2 = check_codes(&bytes[E2..TRIPLE_LENGTH]);
-    and_then(r, and_then(e1, e2))
+    answers::and_then(r, answers::and_then(e1, e2))
 }
 
 // Of 768 bytes, whatever their codes.

@@ -5,9 +5,9 @@ use Prim.Native.Nat.{ℕ}
 use Rattle.scheme.specs.Scheme.{Outcome, found, failed}
 use Rattle.scheme.specs.Answers.{answer}
 use Rattle.derivation.specs.Derivation.{genuine?}
-use Rattle.records.specs.declared.Refusal.the-variants.{DecapsulationFailure, TagMismatch}
-use Rattle.records.specs.declared.Answer.the-variants.{Done}
-use Rattle.records.specs.Answers.{unless, andThen}
+use Rattle.answers.specs.declared.Refusal.the-variants.{DecapsulationFailure, TagMismatch}
+use Rattle.answers.specs.declared.Answer.the-variants.{Done}
+use Rattle.answers.specs.Answers.{unless, andThen}
 use Rattle.calls.specs.Calls.{outcomeAnswer, openedAnswer}
 use Rattle.recovery.specs.Outcomes.{asTriple, answered}
 

@@ -8,9 +8,9 @@ use Rattle.scheme.specs.Scheme.{Triple, Outcome, found, failed, decapsulation}
 use Rattle.scheme.specs.Answers as Struct
 use Rattle.scheme.specs.declared.Triple as Declared
 use Rattle.derivation.specs.Derivation.{verifiedEntry}
-use Rattle.records.specs.declared.Answer.{Answer}
+use Rattle.answers.specs.declared.Answer.{Answer}
 use Rattle.records.specs.declared.Elements.{Elements}
-use Rattle.records.specs.Answers.{andThen}
+use Rattle.answers.specs.Answers.{andThen}
 use Rattle.keys.specs.declared.SecretKey.{SecretKey}
 use Rattle.calls.specs.Calls.{outcomeAnswer, openedAnswer}
 

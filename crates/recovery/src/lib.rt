@@ -2,10 +2,10 @@
 // out before they are joined in document 01's order; beside a refusal stand zeros.
 use keys::SecretKey;
 use ntt::Spectrum;
-use records::Answer;
+use answers::Answer;
 use records::BLOCK_LENGTH;
 use records::Elements;
-use records::Refusal;
+use answers::Refusal;
 use records::SealedEntry;
 use scheme::Encapsulation;
 use scheme::Triple;
@@ -54,10 +54,10 @@ pub fn find_triple(
         backward,
     );
     let triple = d.triple;
-    let found = records::unless(d.found, Refusal::DecapsulationFailure);
-    let opening = records::and_then(words, records::and_then(codes, found));
+    let found = answers::unless(d.found, Refusal::DecapsulationFailure);
+    let opening = answers::and_then(words, answers::and_then(codes, found));
     Decapsulated {
-        answer: records::and_then(checked, opening),
+        answer: answers::and_then(checked, opening),
         triple,
     }
 }
@@ -103,17 +103,17 @@ pub fn recover_entry(
         forward,
         backward,
     );
-    let found = records::unless(d.found, Refusal::DecapsulationFailure);
+    let found = answers::unless(d.found, Refusal::DecapsulationFailure);
     let t = d.triple;
     let r = t.r;
     let e1 = t.e1;
     let e2 = t.e2;
     let v = derivation::verify(r, e1, e2, body, tag);
-    let genuine = records::unless(v.genuine, Refusal::TagMismatch);
+    let genuine = answers::unless(v.genuine, Refusal::TagMismatch);
     let entry = v.entry;
-    let rest = records::and_then(record, records::and_then(found, genuine));
+    let rest = answers::and_then(record, answers::and_then(found, genuine));
     Opened {
-        answer: records::and_then(checked, rest),
+        answer: answers::and_then(checked, rest),
         entry,
     }
 }

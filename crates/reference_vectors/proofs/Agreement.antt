@@ -10,8 +10,8 @@ use Rattle.lists.specs.Table.{zeros}
 use Rattle.lists.proofs.Zeros.{size-zeros}
 use Rattle.lists.proofs.Parts.{length-part}
 use Rattle.hex.specs.Hex.{written}
-use Rattle.records.specs.declared.Answer.{Answer}
-use Rattle.records.specs.Answers.{number}
+use Rattle.answers.specs.declared.Answer.{Answer}
+use Rattle.answers.specs.Answers.{number}
 use Rattle.desk_line.specs.Line.{deskAnswer, deskEntry, shown, deskLine}
 use Rattle.text.specs.Text.{decimal}
 use Rattle.reference_vectors.specs.declared.Call.{Call}

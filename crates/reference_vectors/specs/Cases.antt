@@ -7,9 +7,9 @@ use lib.Dec.{eqb}
 use lib.ListN.{length, getD, replicate, take}
 use Rattle.shake.specs.Shake.{shake256}
 use Rattle.sampling.specs.Noise.{ternaryNoise}
-use Rattle.records.specs.declared.Answer.{Answer}
-use Rattle.records.specs.declared.Answer.the-variants.{Done}
-use Rattle.records.specs.Answers.{number}
+use Rattle.answers.specs.declared.Answer.{Answer}
+use Rattle.answers.specs.declared.Answer.the-variants.{Done}
+use Rattle.answers.specs.Answers.{number}
 use Rattle.calls.specs.Calls.{checkAnswer, keygenAnswer, keygenPublic, keygenSecret, encapsulateAnswer, encapsulateOut}
 use Rattle.calls.specs.Calls.{decapsulateAnswer, decapsulateOut, sealAnswer, sealOut, openAnswer, openOut}
 use Rattle.desk_line.specs.Line.{deskLine}

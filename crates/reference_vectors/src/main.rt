@@ -9,7 +9,7 @@ ghost use Rattle.vectors.specs.Answers.{report};
 ghost use Rattle.reference_vectors.specs.Cases.{room, filled, output, outputAgrees?, answerAgrees?, callAnswer, callOut, sizeField, lastField};
 ghost use Rattle.reference_vectors.specs.Cases.{checkAgrees?, keysAgree?, publicAfter, secretAfter, keygenAgrees?, outAfter, callAgrees?};
 ghost use Rattle.reference_vectors.specs.Cases.{residueOf, noiseAgrees?, deskAgrees?, agrees?, verdict};
-use records::Answer;
+use answers::Answer;
 use vectors::Report;
 use vectors::Verdict;
 
@@ -62,7 +62,7 @@ fn output_agrees(told: u32, bytes: &[u8], after: &[u8]) -> bool
 fn answer_agrees(answer: Answer, told: u32, bytes: &[u8], after: &[u8]) -> bool
     ensures { λ r. ⌜ r ≡ answerAgrees? answer told (now (bytes .entry)) (now (after .entry)) ⌝ }
 {
-    (records::number(answer) == told) & output_agrees(told, bytes, after)
+    (answers::number(answer) == told) & output_agrees(told, bytes, after)
 }
 
 // ---- check_secret_key
@@ -71,7 +71,7 @@ fn check_agrees(text: &[u8]) -> bool
     ensures { λ r. ⌜ r ≡ checkAgrees? (now (text .entry)) ⌝ }
 {
     let answer = key_calls::check_secret_key(vectors::field(text, 0));
-    records::number(answer) == vectors::number(text, 1)
+    answers::number(answer) == vectors::number(text, 1)
 }
 
 // ---- keygen

@@ -8,10 +8,10 @@ use Rattle.lists.specs.Table.{zeros}
 use Rattle.text.specs.Text.{written, decimal}
 use Rattle.text.proofs.Texts.{Put, put-all}
 use Rattle.text.proofs.Decimals.{length-digits}
-use Rattle.records.specs.declared.Refusal.{Refusal}
-use Rattle.records.specs.declared.Answer.{Answer}
-use Rattle.records.specs.declared.Answer.the-variants.{Refused}
-use Rattle.records.specs.Answers.{number}
+use Rattle.answers.specs.declared.Refusal.{Refusal}
+use Rattle.answers.specs.declared.Answer.{Answer}
+use Rattle.answers.specs.declared.Answer.the-variants.{Refused}
+use Rattle.answers.specs.Answers.{number}
 use Rattle.refusal_line.specs.Line.{refusalLine}
 
 -- digits and a line feed that were put into a buffer are the line

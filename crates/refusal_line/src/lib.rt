@@ -1,5 +1,5 @@
 // The line that a program writes to standard error where it refuses.
-use records::Answer;
+use answers::Answer;
 ghost use mathlib.Core.Path.{_≡_};
 ghost use Prim.Native.Nat.{_≤_};
 ghost use lib.ListN.{length};
@@ -22,7 +22,7 @@ pub fn line(answer: Answer) -> Text
     if let Answer::Done = answer {
         return Text { bytes, length: 0 };
     }
-    let digits = text::put_decimal(&mut bytes, 0, records::number(answer) as u64);
+    let digits = text::put_decimal(&mut bytes, 0, answers::number(answer) as u64);
     let length = text::put(&mut bytes, digits, b"\n");
     Text { bytes, length }
 }

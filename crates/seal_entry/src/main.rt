@@ -2,10 +2,10 @@
 // the sealed entry (4,133 bytes). A refusal writes its number to standard error and nothing else. The exit status is always 0,
 // since the language has no other.
 use keys::TRIPLE_NOISE_LENGTH;
-use records::Answer;
+use answers::Answer;
 use records::BLOCK_LENGTH;
 use records::PUBLIC_KEY_LENGTH;
-use records::Refusal;
+use answers::Refusal;
 use records::SEALED_ENTRY_LENGTH;
 ghost use mathlib.Core.Path.{_≡_};
 ghost use mathlib.Core.List.{[]};
@@ -13,7 +13,7 @@ ghost use Prim.Native.Nat.{_+_, _≤_};
 ghost use lib.ListN.{length, take};
 ghost use Rattle.lists.specs.Table.{zeros};
 ghost use Rattle.text.specs.Text.{written};
-ghost use Rattle.records.specs.Answers.{onDone};
+ghost use Rattle.answers.specs.Answers.{onDone};
 ghost use Rattle.records.specs.Layout.{sealedEntryLength};
 ghost use Rattle.seal_entry.specs.SealEntry.{inputLength, sealEntryAnswer, sealedEntry, standardOutput, standardError};
 use libc::STDERR_FILENO;

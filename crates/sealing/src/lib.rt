@@ -3,11 +3,11 @@ use keys::PublicKey;
 use keys::TRIPLE_NOISE_LENGTH;
 use ntt::Element;
 use ntt::FACTORS;
-use records::Answer;
+use answers::Answer;
 use records::BLOCK_LENGTH;
 use records::ENCAPSULATION_LENGTH;
 use records::PUBLIC_KEY_LENGTH;
-use records::Refusal;
+use answers::Refusal;
 use records::SEALED_ENTRY_LENGTH;
 use records::TRIPLE_LENGTH;
 use scheme::Triple;
@@ -17,7 +17,7 @@ ghost use Rattle.ntt.specs.Spectrum.{coefficientsOf};
 ghost use Rattle.ntt.specs.Factors.{forwardFactors, backwardFactors};
 ghost use Rattle.scheme.specs.Scheme.{masked};
 ghost use Rattle.scheme.specs.Answers as Struct;
-ghost use Rattle.records.specs.Answers.{andThen, onDone};
+ghost use Rattle.answers.specs.Answers.{andThen, onDone};
 ghost use Rattle.records.specs.Layout.{publicKeyLength, sealedEntryLength, encapsulationLength, tripleLength, blockLength};
 ghost use Rattle.records.specs.Records.{firstOf, secondOf, sealedEntryBytes, encapsulationBytes};
 ghost use Rattle.records.specs.Triple.{tripleOf, tripleAnswer};
@@ -52,7 +52,7 @@ fn encapsulate_with(
     let c1 = c.c1;
     let c2 = c.c2;
     Encapsulated {
-        answer: records::and_then(checked, codes),
+        answer: answers::and_then(checked, codes),
         c1,
         c2,
     }

@@ -11,7 +11,7 @@ use libc::STDOUT_FILENO;
 use modq::Q;
 use ntt::DEGREE;
 use ntt::Element;
-use records::Answer;
+use answers::Answer;
 use records::BLOCK_LENGTH;
 use records::ENCAPSULATION_LENGTH;
 use records::FIRST;
@@ -92,7 +92,7 @@ fn print_text(text: &[u8]) {
 }
 
 fn print_answer(answer: Answer) {
-    io::print_decimal(STDOUT_FILENO, records::number(answer) as u64);
+    io::print_decimal(STDOUT_FILENO, answers::number(answer) as u64);
 }
 
 fn print_answered(name: &[u8], answer: Answer) {

@@ -5,8 +5,8 @@ use lib.Dec.{eqb}
 use lib.ListN.{length}
 use Rattle.ntt.proofs.Factors.{forward-size, backward-size}
 use borrow.Author.Tests.{eq-eqb, ne-eqb}
-use Rattle.records.specs.declared.Refusal.the-variants.{WrongLength}
-use Rattle.records.specs.Answers.{number, unless}
+use Rattle.answers.specs.declared.Refusal.the-variants.{WrongLength}
+use Rattle.answers.specs.Answers.{number, unless}
 use Rattle.keys.specs.Keys.{secretAnswer}
 use Rattle.calls.specs.Calls.{checkAnswer}
 use Rattle.calls.proofs.Promised.{check-promise}

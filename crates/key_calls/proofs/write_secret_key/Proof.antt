@@ -1,5 +1,5 @@
 use mathlib.Core.Path.{sym, _∙_}
-use Rattle.records.proofs.AnswerLaws.{on-done}
+use Rattle.answers.proofs.AnswerLaws.{on-done}
 use borrow.Author.Needs.{needs}
 use Rattle.key_calls.proofs.write_secret_key.Statement.{statement}
 use Rattle.key_calls.proofs.write_secret_key.Tie as tie

@@ -5,9 +5,9 @@ use Prim.Native.Nat.{ℕ}
 use lib.Dec.{eqb}
 use Rattle.ring.specs.Invertible.{invertible?}
 use Rattle.scheme.specs.Scheme.{keyElement}
-use Rattle.records.specs.declared.Refusal.the-variants.{NotInvertible, StreamExhausted}
-use Rattle.records.specs.declared.Answer.the-variants.{Done}
-use Rattle.records.specs.Answers.{unless, andThen}
+use Rattle.answers.specs.declared.Refusal.the-variants.{NotInvertible, StreamExhausted}
+use Rattle.answers.specs.declared.Answer.the-variants.{Done}
+use Rattle.answers.specs.Answers.{unless, andThen}
 use Rattle.keys.specs.Keys.{keygenB, generatedAnswer}
 use Rattle.ntt.proofs.Factors.{forward-size, backward-size}
 use Rattle.keys.proofs.Equal.{ap-three}

@@ -7,9 +7,9 @@ use mathlib.Core.List.{List}
 use Prim.Native.Nat.{ℕ}
 use Rattle.ntt.specs.Spectrum.{spectrumOf}
 use Rattle.ring.specs.Invertible.{invertible?}
-use Rattle.records.specs.declared.Refusal.the-variants.{NotInvertible}
-use Rattle.records.specs.declared.Answer.the-variants.{Done}
-use Rattle.records.specs.Answers.{unless, andThen}
+use Rattle.answers.specs.declared.Refusal.the-variants.{NotInvertible}
+use Rattle.answers.specs.declared.Answer.the-variants.{Done}
+use Rattle.answers.specs.Answers.{unless, andThen}
 use Rattle.keys.specs.Keys.{publicAnswer}
 use borrow.Author.Needs.{needs}
 use Rattle.keys.proofs.read_public_key.Statement.{statement}

@@ -4,7 +4,7 @@ use Rattle.records.proofs.Checks.{front-checked}
 use mathlib.Core.Path.{ap, ap₂, _∙_}
 use Rattle.ntt.specs.Spectrum.{spectrumOf}
 use Rattle.scheme.specs.Answers.{keyCheck}
-use Rattle.records.specs.Answers.{andThen}
+use Rattle.answers.specs.Answers.{andThen}
 use Rattle.keys.specs.Keys.{verdictAnswer, secretAnswer}
 use Rattle.keys.proofs.Equal.{ap-three}
 use borrow.Author.Needs.{needs}

@@ -2,8 +2,8 @@ use mathlib.Core.Path.{_≡_, refl, sym, ap, ap₂, _∙_}
 use denote.Ref.{now}
 use lib.ListN.{length}
 use borrow.Author.Tests.{ne-eqb, eq-eqb}
-use Rattle.records.specs.declared.Answer.{Answer}
-use Rattle.records.specs.Answers.{onDone}
+use Rattle.answers.specs.declared.Answer.{Answer}
+use Rattle.answers.specs.Answers.{onDone}
 use Rattle.calls.specs.Calls.{keygenAnswer, keygenPublic, keygenSecret}
 use Rattle.make_key.specs.MakeKey.{streamPart, sPart, ePart, publicKey, secretKey}
 use Rattle.make_key.proofs.Printing.{answer-by-length}

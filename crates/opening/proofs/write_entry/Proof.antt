@@ -1,5 +1,5 @@
 use mathlib.Core.Path.{sym, _∙_}
-use Rattle.records.proofs.AnswerLaws.{on-done}
+use Rattle.answers.proofs.AnswerLaws.{on-done}
 use borrow.Author.Needs.{needs}
 use Rattle.opening.proofs.write_entry.Statement.{statement}
 use Rattle.opening.proofs.write_entry.Tie as tie

@@ -1,9 +1,9 @@
 use Rattle.records.specs.Layout.{tripleLength}
-use Rattle.records.proofs.AnswerLaws.{on-done}
+use Rattle.answers.proofs.AnswerLaws.{on-done}
 use mathlib.Core.Path.{_≡_, sym, ap, _∙_}
 use denote.Ref.{now}
-use Rattle.records.specs.declared.Answer.{Answer}
-use Rattle.records.specs.Answers.{onDone}
+use Rattle.answers.specs.declared.Answer.{Answer}
+use Rattle.answers.specs.Answers.{onDone}
 use lib.ListN.{length}
 use Rattle.encoding.proofs.Buffers.{put-exact}
 use Rattle.records.specs.Triple.{tripleBytes}

@@ -1,5 +1,5 @@
 use mathlib.Core.Path.{ap, _∙_}
-use Rattle.records.specs.Answers.{number}
+use Rattle.answers.specs.Answers.{number}
 use borrow.Author.Needs.{needs}
 use Rattle.polka.proofs.polka_encapsulate.Statement.{statement}
 use Rattle.polka.proofs.polka_encapsulate.Tie as tie

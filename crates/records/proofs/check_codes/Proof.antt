@@ -1,9 +1,9 @@
 use mathlib.Core.Path.{ap, _∙_}
 use Prim.Native.Nat.{ℕ}
 use lib.Dec.{eqb}
-use Rattle.records.specs.declared.Refusal.the-variants.{InvalidCode}
-use Rattle.records.specs.declared.Answer.the-variants.{Done}
-use Rattle.records.specs.Answers.{unless}
+use Rattle.answers.specs.declared.Refusal.the-variants.{InvalidCode}
+use Rattle.answers.specs.declared.Answer.the-variants.{Done}
+use Rattle.answers.specs.Answers.{unless}
 use Rattle.records.specs.Records.{codesAnswer}
 use borrow.Author.Needs.{needs}
 use Rattle.records.proofs.check_codes.Statement.{statement}

@@ -1,5 +1,5 @@
 use mathlib.Core.Path.{ap₂, _∙_}
-use Rattle.records.specs.Answers.{andThen}
+use Rattle.answers.specs.Answers.{andThen}
 use Rattle.records.specs.Triple.{tripleAnswer}
 use borrow.Author.Needs.{needs}
 use Rattle.records.proofs.check_triple.Statement.{statement}

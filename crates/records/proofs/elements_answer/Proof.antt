@@ -1,5 +1,5 @@
 use mathlib.Core.Path.{ap₂, _∙_}
-use Rattle.records.specs.Answers.{andThen}
+use Rattle.answers.specs.Answers.{andThen}
 use Rattle.records.specs.Records.{elementsAnswer}
 use borrow.Author.Needs.{needs}
 use Rattle.records.proofs.elements_answer.Statement.{statement}

@@ -1,5 +1,5 @@
 use mathlib.Core.Path.{ap, _∙_}
-use Rattle.records.specs.Answers.{andThen}
+use Rattle.answers.specs.Answers.{andThen}
 use borrow.Author.Needs.{needs}
 use Rattle.records.proofs.front_answer.Statement.{statement}
 use Rattle.records.proofs.front_answer.Tie as tie

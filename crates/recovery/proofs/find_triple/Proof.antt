@@ -1,8 +1,8 @@
 use mathlib.Core.Path.{ap, ap₂, _∙_}
 use Rattle.scheme.specs.declared.Decapsulation.{Decapsulation}
-use Rattle.records.specs.declared.Refusal.the-variants.{DecapsulationFailure}
-use Rattle.records.specs.declared.Answer.the-variants.{Done}
-use Rattle.records.specs.Answers.{unless, andThen}
+use Rattle.answers.specs.declared.Refusal.the-variants.{DecapsulationFailure}
+use Rattle.answers.specs.declared.Answer.the-variants.{Done}
+use Rattle.answers.specs.Answers.{unless, andThen}
 use Rattle.recovery.specs.Outcomes.{asTriple, outcomeBy}
 use Rattle.recovery.proofs.Laws.{found-answer, found-triple}
 use borrow.Author.Needs.{needs}

@@ -3,9 +3,9 @@ use mathlib.Core.Bool.{Bool}
 use Rattle.scheme.specs.Scheme.{Triple}
 use Rattle.scheme.specs.declared.Decapsulation.{Decapsulation}
 use Rattle.derivation.specs.Derivation.{genuine?, verifiedEntry}
-use Rattle.records.specs.declared.Refusal.the-variants.{DecapsulationFailure, TagMismatch}
-use Rattle.records.specs.declared.Answer.the-variants.{Done}
-use Rattle.records.specs.Answers.{unless, andThen}
+use Rattle.answers.specs.declared.Refusal.the-variants.{DecapsulationFailure, TagMismatch}
+use Rattle.answers.specs.declared.Answer.the-variants.{Done}
+use Rattle.answers.specs.Answers.{unless, andThen}
 use Rattle.recovery.specs.Outcomes.{asTriple, outcomeBy}
 use Rattle.recovery.proofs.Laws.{found-answer, found-triple, verified-answer}
 use borrow.Author.Needs.{needs}

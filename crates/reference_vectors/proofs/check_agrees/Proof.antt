@@ -1,6 +1,6 @@
 use mathlib.Core.Path.{ap, ap₂, _∙_}
 use lib.Dec.{eqb}
-use Rattle.records.specs.Answers.{number}
+use Rattle.answers.specs.Answers.{number}
 use Rattle.calls.specs.Calls.{checkAnswer}
 use borrow.Author.Needs.{needs}
 use Rattle.reference_vectors.proofs.check_agrees.Statement.{statement}

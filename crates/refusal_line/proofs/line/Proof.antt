@@ -8,7 +8,7 @@ use Rattle.refusal_line.proofs.line.Statement.{statement}
 use Rattle.refusal_line.proofs.line.Tie as tie
 use Rattle.refusal_line.proofs.line.Reads as reads
 use Rattle.refusal_line.proofs.line.Lts as lts
-use Rattle.records.proofs.number.Reads as number-reads
+use Rattle.answers.proofs.number.Reads as number-reads
 use Rattle.text.proofs.put.Reads as put-reads
 use Rattle.text.proofs.put_decimal.Reads as put-decimal-reads
 

@@ -1,8 +1,8 @@
 use mathlib.Core.Path.{refl, sym, ap, _∙_}
 use denote.Ref.{now}
 use borrow.Author.Tests.{ne-eqb, eq-eqb}
-use Rattle.records.specs.declared.Answer.{Answer}
-use Rattle.records.specs.Answers.{onDone}
+use Rattle.answers.specs.declared.Answer.{Answer}
+use Rattle.answers.specs.Answers.{onDone}
 use Rattle.calls.specs.Calls.{sealAnswer, sealOut}
 use Rattle.seal_entry.specs.SealEntry.{keyPart, noisePart, entryPart, sealedEntry}
 use Rattle.seal_entry.proofs.Printing.{answer-by-length}

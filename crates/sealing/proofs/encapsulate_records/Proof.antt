@@ -1,7 +1,7 @@
 use mathlib.Core.Path.{ap₂, _∙_}
 use denote.Ref.{now}
 use Rattle.encoding.proofs.Words.{length-elementOf}
-use Rattle.records.specs.Answers.{andThen}
+use Rattle.answers.specs.Answers.{andThen}
 use Rattle.records.specs.Records.{firstOf, secondOf}
 use Rattle.ntt.proofs.Factors.{forward-size, backward-size}
 use Rattle.sealing.proofs.Laws.{encapsulated-through}

@@ -1,5 +1,5 @@
 use mathlib.Core.Path.{sym, _∙_}
-use Rattle.records.proofs.AnswerLaws.{on-done}
+use Rattle.answers.proofs.AnswerLaws.{on-done}
 use borrow.Author.Needs.{needs}
 use Rattle.sealing.proofs.write_encapsulation.Statement.{statement}
 use Rattle.sealing.proofs.write_encapsulation.Tie as tie

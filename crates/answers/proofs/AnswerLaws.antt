@@ -5,12 +5,12 @@ use mathlib.Core.Logic.{_↔_}
 use mathlib.Core.List.{List}
 use Prim.Native.Nat.{ℕ, _<_}
 use native.Mathlib.Omega.{arith}
-use Rattle.records.specs.declared.Refusal.{Refusal}
-use Rattle.records.specs.declared.Refusal.the-variants.{WrongLength, WrongMark, WrongVersion, CoefficientOutOfRange, InvalidCode}
-use Rattle.records.specs.declared.Refusal.the-variants.{NotInvertible, KeyMismatch, StreamExhausted, DecapsulationFailure, TagMismatch}
-use Rattle.records.specs.declared.Answer.{Answer}
-use Rattle.records.specs.declared.Answer.the-variants.{Done, Refused}
-use Rattle.records.specs.Answers.{refusalNumber, number, unless, andThen, onDone}
+use Rattle.answers.specs.declared.Refusal.{Refusal}
+use Rattle.answers.specs.declared.Refusal.the-variants.{WrongLength, WrongMark, WrongVersion, CoefficientOutOfRange, InvalidCode}
+use Rattle.answers.specs.declared.Refusal.the-variants.{NotInvertible, KeyMismatch, StreamExhausted, DecapsulationFailure, TagMismatch}
+use Rattle.answers.specs.declared.Answer.{Answer}
+use Rattle.answers.specs.declared.Answer.the-variants.{Done, Refused}
+use Rattle.answers.specs.Answers.{refusalNumber, number, unless, andThen, onDone}
 
 -- ---- 0 is Done
 

@@ -2,10 +2,10 @@
 use mathlib.Core.Bool.{Bool, true, false}
 use mathlib.Core.List.{List}
 use Prim.Native.Nat.{ℕ}
-use Rattle.records.specs.declared.Refusal.{Refusal}
-use Rattle.records.specs.declared.Refusal.the-variants.{WrongLength, WrongMark, WrongVersion, CoefficientOutOfRange, InvalidCode, NotInvertible, KeyMismatch, StreamExhausted, DecapsulationFailure, TagMismatch}
-use Rattle.records.specs.declared.Answer.{Answer}
-use Rattle.records.specs.declared.Answer.the-variants.{Done, Refused}
+use Rattle.answers.specs.declared.Refusal.{Refusal}
+use Rattle.answers.specs.declared.Refusal.the-variants.{WrongLength, WrongMark, WrongVersion, CoefficientOutOfRange, InvalidCode, NotInvertible, KeyMismatch, StreamExhausted, DecapsulationFailure, TagMismatch}
+use Rattle.answers.specs.declared.Answer.{Answer}
+use Rattle.answers.specs.declared.Answer.the-variants.{Done, Refused}
 
 -- document 01's words beside its numbers
 abbrev pub refusalNumber : Refusal → ℕ

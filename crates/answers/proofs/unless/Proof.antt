@@ -1,10 +1,10 @@
 use mathlib.Core.Path.{_≡_, sym, ap}
 use mathlib.Core.Bool.{Bool, true, false}
-use Rattle.records.specs.declared.Answer.the-variants.{Done}
-use Rattle.records.specs.Answers.{unless}
+use Rattle.answers.specs.declared.Answer.the-variants.{Done}
+use Rattle.answers.specs.Answers.{unless}
 use borrow.Author.Needs.{needs}
-use Rattle.records.proofs.unless.Statement.{statement}
-use Rattle.records.proofs.unless.Tie as tie
+use Rattle.answers.proofs.unless.Statement.{statement}
+use Rattle.answers.proofs.unless.Tie as tie
 
 returns : tie.Need-returns
 returns c =

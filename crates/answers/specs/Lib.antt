@@ -1,0 +1,2 @@
+-- Answers and their numbers.
+pub mod Answers
