@@ -7,17 +7,18 @@ use Rattle.scheme.specs.Scheme.{Triple, masked}
 use Rattle.answers.specs.declared.Answer.the-variants.{Done}
 use Rattle.answers.specs.Answers.{number}
 use Rattle.records.specs.Layout.{encapsulationLength, tripleLength}
-use Rattle.records.specs.Triple.{tripleBytes}
+use Rattle.triples.specs.Triple.{tripleBytes}
 use Rattle.records.specs.Records.{firstOf, secondOf, c1Of, c2Of}
-use Rattle.records.specs.Triple.{rOf, e1Of, e2Of}
-use Rattle.records.specs.Triple.{tripleOf}
+use Rattle.triples.specs.Triple.{rOf, e1Of, e2Of}
+use Rattle.triples.specs.Triple.{tripleOf}
 use Rattle.calls.specs.Calls.{encapsulateAnswer, encapsulatedWith, encapsulateOut, decapsulateAnswer, decapsulateOut}
-use Rattle.records.specs.WellFormed.{WellFormedEncapsulation, WellFormedTriple}
+use Rattle.records.specs.WellFormed.{WellFormedEncapsulation}
+use Rattle.triples.specs.WellFormed.{WellFormedTriple}
 use Rattle.calls.specs.Promises.{Accepted, PublicOf, Bytes}
 use Rattle.answers.proofs.AnswerLaws.{on-done}
-use Rattle.records.proofs.RecordLaws.{triple-done}
+use Rattle.triples.proofs.TripleLaws.{triple-done}
 use Rattle.records.proofs.WrittenRecords.{length-encapsulation, encapsulation-c1, encapsulation-c2}
-use Rattle.records.proofs.WrittenTriples.{triple-bytes}
+use Rattle.triples.proofs.WrittenTriples.{triple-bytes}
 use Rattle.calls.proofs.WhenDone.{encapsulate-done}
 use Rattle.calls.proofs.Outcomes.{coded-ternary}
 use Rattle.calls.proofs.DecapsulateExact.{decapsulate-exact}

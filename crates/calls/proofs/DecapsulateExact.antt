@@ -12,18 +12,20 @@ use Rattle.scheme.proofs.Steps.{triple-same}
 use Rattle.answers.specs.declared.Refusal.the-variants.{WrongLength}
 use Rattle.answers.specs.declared.Answer.{Answer}
 use Rattle.answers.specs.Answers.{number, onDone}
-use Rattle.records.specs.Triple.{tripleBytes}
+use Rattle.triples.specs.Triple.{tripleBytes}
 use Rattle.records.specs.Layout.{tripleLength}
 use Rattle.records.specs.Records.{firstOf, secondOf, c1Of, c2Of}
-use Rattle.records.specs.Triple.{rOf, e1Of, e2Of}
-use Rattle.records.specs.Triple.{tripleOf}
+use Rattle.triples.specs.Triple.{rOf, e1Of, e2Of}
+use Rattle.triples.specs.Triple.{tripleOf}
 use Rattle.keys.specs.Keys.{KeyElements, elementsOf}
 use Rattle.calls.specs.Calls.{outcome, outcomeAnswer, outcomeBytes, decapsulateAnswer, decapsulateOut}
-use Rattle.records.specs.WellFormed.{WellFormedEncapsulation, WellFormedTriple}
+use Rattle.records.specs.WellFormed.{WellFormedEncapsulation}
+use Rattle.triples.specs.WellFormed.{WellFormedTriple}
 use Rattle.calls.specs.Promises.{Accepted, Ternaries, Decapsulated, DecapsulateExact}
 use Rattle.answers.proofs.AnswerLaws.{unless-passed, then-passed}
-use Rattle.records.proofs.RecordLaws.{encapsulation-done, triple-done}
-use Rattle.records.proofs.WrittenTriples.{triple-r, triple-e1, triple-e2}
+use Rattle.records.proofs.RecordLaws.{encapsulation-done}
+use Rattle.triples.proofs.TripleLaws.{triple-done}
+use Rattle.triples.proofs.WrittenTriples.{triple-r, triple-e1, triple-e2}
 use Rattle.calls.proofs.Lengths.{decapsulate-fits}
 use Rattle.calls.proofs.CheckExact.{accepted-iff, accepted-done}
 use Rattle.calls.proofs.Outcomes.{coded-ternary, Sound, accepted-sound, outcome-exact, outcome-free, outcome-ternary, found-answer, failed-answer}

@@ -17,12 +17,13 @@ use Rattle.records.specs.Records.{firstOf, secondOf, codesPart, bodyPart, tagPa
 use Rattle.keys.specs.Keys.{elementsOf, publicAnswer, secretAnswer, noiseTriple}
 use Rattle.calls.specs.Calls.{checkAnswer, keygenAnswer, outcome, outcomeAnswer, openedAnswer}
 use Rattle.records.specs.Layout.{sealedEntryMark, secretKeyMark}
-use Rattle.records.specs.Triple.{tripleOf}
+use Rattle.triples.specs.Triple.{tripleOf}
 use Rattle.calls.specs.Calls.{encapsulateAnswer, decapsulateAnswer, sealAnswer, openAnswer}
 use Rattle.records.specs.WellFormed.{WellFormedFront, WellFormedKey}
 use Rattle.calls.specs.Promises.{NotInvertibleExact}
 use Rattle.answers.proofs.AnswerLaws.{Never, unless-never, done-never, then-never, unless-says, then-refuses}
-use Rattle.records.proofs.RecordLaws.{record-never, encapsulation-never, triple-never}
+use Rattle.records.proofs.RecordLaws.{record-never, encapsulation-never}
+use Rattle.triples.proofs.TripleLaws.{triple-never}
 use Rattle.calls.proofs.Lengths.{one-fits, keygen-fits, encapsulate-fits, decapsulate-fits, seal-fits, open-fits}
 use Rattle.keys.proofs.KeyLaws.{generated-refused, public-refused, secret-refused}
 

@@ -18,7 +18,7 @@ use Rattle.answers.specs.declared.Refusal.the-variants.{TagMismatch}
 use Rattle.answers.specs.declared.Answer.the-variants.{Done}
 use Rattle.answers.specs.Answers.{number, unless}
 use Rattle.records.specs.Records.{firstOf, secondOf, secretOf}
-use Rattle.records.specs.Triple.{tripleOf}
+use Rattle.triples.specs.Triple.{tripleOf}
 use Rattle.keys.specs.Keys.{KeyElements, elementsOf, noiseTriple}
 use Rattle.calls.specs.Calls.{outcome, outcomeAnswer, openedAnswer}
 use Rattle.calls.specs.Promises.{Accepted, Ternaries}

@@ -12,11 +12,11 @@ use Rattle.answers.specs.declared.Answer.{Answer}
 use Rattle.answers.specs.declared.Answer.the-variants.{Done}
 use Rattle.answers.specs.Answers.{unless}
 use Rattle.records.specs.Records.{firstOf, secondOf, bodyPart, tagPart, recordAnswer, c1Of, c2Of, encapsulationAnswer}
-use Rattle.records.specs.Triple.{tripleAnswer}
+use Rattle.triples.specs.Triple.{tripleAnswer}
 use Rattle.keys.specs.Keys.{elementsOf, publicAnswer, secretAnswer, keygenB, noiseTriple}
 use Rattle.calls.specs.Calls.{checkAnswer, keygenAnswer, outcome, outcomeAnswer, openedAnswer}
 use Rattle.records.specs.Layout.{sealedEntryMark}
-use Rattle.records.specs.Triple.{tripleOf}
+use Rattle.triples.specs.Triple.{tripleOf}
 use Rattle.calls.specs.Calls.{encapsulateAnswer, decapsulateAnswer, sealAnswer, openAnswer}
 use Rattle.answers.proofs.AnswerLaws.{unless-done, then-done}
 use Rattle.calls.proofs.Lengths.{one-fits, keygen-fits, encapsulate-fits, decapsulate-fits, seal-fits, open-fits}

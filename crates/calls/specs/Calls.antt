@@ -19,7 +19,7 @@ use Rattle.answers.specs.Answers.{unless, andThen, onDone}
 use Rattle.records.specs.Layout.{sealedEntryMark, publicKeyLength, secretKeyLength, sealedEntryLength, encapsulationLength, tripleLength, blockLength}
 use Rattle.records.specs.Records.{firstOf, secondOf, bodyPart, tagPart, recordAnswer, publicKeyBytes, secretKeyBytes, sealedEntryBytes}
 use Rattle.records.specs.Records.{c1Of, c2Of, encapsulationAnswer, encapsulationBytes}
-use Rattle.records.specs.Triple.{tripleOf, tripleAnswer, tripleBytes}
+use Rattle.triples.specs.Triple.{tripleOf, tripleAnswer, tripleBytes}
 use Rattle.keys.specs.Keys.{publicAnswer, secretAnswer, KeyElements, elementsOf, keygenB, generatedAnswer, tripleNoiseLength, noiseTriple}
 
 -- ---- check_secret_key

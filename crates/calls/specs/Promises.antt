@@ -13,12 +13,13 @@ use Rattle.encoding.specs.Codes.{firstInvalidCode}
 use Rattle.encoding.specs.Header.{hasMark, versionOf}
 use Rattle.sampling.specs.Noise.{noiseLength}
 use Rattle.sampling.specs.Stream.{streamLength, taken}
-use Rattle.records.specs.Triple.{tripleBytes}
+use Rattle.triples.specs.Triple.{tripleBytes}
 use Rattle.derivation.specs.Derivation.{tagOf, entryOf}
 use Rattle.answers.specs.Answers.{number}
 use Rattle.records.specs.Layout.{publicKeyMark, secretKeyMark, publicKeyLength, secretKeyLength, sealedEntryLength, encapsulationLength, tripleLength, blockLength}
 use Rattle.records.specs.Records.{firstOf, secondOf, codesPart, bodyPart, tagPart, c1Of, c2Of}
-use Rattle.records.specs.WellFormed.{WellFormedFront, WellFormedPublicKey, WellFormedKey, WellFormedEntry, WellFormedEncapsulation, WellFormedTriple}
+use Rattle.records.specs.WellFormed.{WellFormedFront, WellFormedPublicKey, WellFormedKey, WellFormedEntry, WellFormedEncapsulation}
+use Rattle.triples.specs.WellFormed.{WellFormedTriple}
 use Rattle.keys.specs.Keys.{publicAnswer, secretAnswer, elementsOf, Matches, keygenB, tripleNoiseLength}
 use Rattle.calls.specs.Calls.{checkAnswer, keygenAnswer, keygenPublic, keygenSecret}
 use Rattle.calls.specs.Calls.{encapsulateAnswer, encapsulateOut, decapsulateAnswer, decapsulateOut, sealAnswer, sealOut, openAnswer, openOut}

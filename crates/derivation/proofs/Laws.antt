@@ -12,7 +12,7 @@ use Rattle.gf128.specs.Bytes.{Block, block, sum, product, tag, equal}
 use Rattle.gf128.proofs.FieldLaws.{part-block, sum-block, product-block, sum-twice}
 use Rattle.gf128.proofs.TagLaws.{tag-one}
 use Rattle.gf128.proofs.Comparison.{equal-iff}
-use Rattle.records.specs.Triple.{tripleBytes}
+use Rattle.triples.specs.Triple.{tripleBytes}
 use Rattle.derivation.specs.Derivation.{keyMaterial, key0, key1, key2, keystream, bodyOf, tagOf, genuine?, entryOf, verifiedEntry}
 use Rattle.derivation.proofs.HashedBytes.{shake256-byte}
 

@@ -5,7 +5,7 @@ use Prim.Native.Nat.{ℕ}
 use Rattle.lists.specs.Table.{zeros}
 use Rattle.shake.specs.Shake.{shake256}
 use Rattle.gf128.specs.Bytes.{block, sum, product, equal}
-use Rattle.records.specs.Triple.{tripleBytes}
+use Rattle.triples.specs.Triple.{tripleBytes}
 
 -- K: the first 48 bytes of SHAKE256 over byte 0x01 and the triple
 unfoldable pub keyMaterial : (r e1 e2 : List ℕ) → List ℕ

@@ -8,7 +8,7 @@ ghost use mathlib.Core.List.{_∷_};
 ghost use Prim.Native.Nat.{_<_};
 ghost use Rattle.shake.specs.Shake.{shake256};
 ghost use Rattle.gf128.specs.Bytes.{block};
-ghost use Rattle.records.specs.Triple.{tripleBytes};
+ghost use Rattle.triples.specs.Triple.{tripleBytes};
 ghost use Rattle.derivation.specs.Derivation.{keyMaterial, key0, key1, key2, bodyOf, tagOf, genuine?, verifiedEntry};
 
 // What is hashed for the keys and for the keystream, and the three keys.
@@ -33,7 +33,7 @@ fn key_input(r: Element, e1: Element, e2: Element) -> [u8; KEY_INPUT]
 {
     let mut input = [0u8; KEY_INPUT];
     input[0] = 0x01;
-    records::write_triple(r, e1, e2, &mut input[1..KEY_INPUT]);
+    triples::write_triple(r, e1, e2, &mut input[1..KEY_INPUT]);
     input
 }
 

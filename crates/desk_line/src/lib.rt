@@ -1,6 +1,6 @@
 // What the desk program prints, from what it read.
-use keys::TRIPLE_NOISE_LENGTH;
 use answers::Answer;
+use keys::TRIPLE_NOISE_LENGTH;
 use records::BLOCK_LENGTH;
 use records::SEALED_ENTRY_LENGTH;
 use records::SECRET_KEY_LENGTH;

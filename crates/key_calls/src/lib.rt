@@ -1,9 +1,9 @@
 // The calls that make and check keys. Buffers may have any length; under any answer but Done every output is as it came.
+use answers::Answer;
+use answers::Refusal;
 use ntt::Element;
 use ntt::FACTORS;
-use answers::Answer;
 use records::PUBLIC_KEY_LENGTH;
-use answers::Refusal;
 use records::SECRET_KEY_LENGTH;
 use sampling::NOISE_LENGTH;
 use sampling::STREAM_LENGTH;

@@ -1,12 +1,12 @@
 // Keys and triples read off the bytes that a call was lent: checked in document 01's order, and prepared for the scheme.
 // The calls test every length first, so the functions here are lent buffers of the record's length.
+use answers::Answer;
+use answers::Refusal;
 use ntt::DEGREE;
 use ntt::Element;
 use ntt::FACTORS;
 use ntt::Spectrum;
-use answers::Answer;
 use records::PUBLIC_KEY_MARK;
-use answers::Refusal;
 use records::SECRET_KEY_LENGTH;
 use records::SECRET_KEY_MARK;
 use records::THIRD;

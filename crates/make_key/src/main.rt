@@ -2,8 +2,8 @@
 // output is the public key (4,101 bytes) and, behind it, the secret key (4,357). A refusal writes its number to standard error and
 // nothing else. The exit status is always 0, since the language has no other.
 use answers::Answer;
-use records::PUBLIC_KEY_LENGTH;
 use answers::Refusal;
+use records::PUBLIC_KEY_LENGTH;
 use records::SECRET_KEY_LENGTH;
 use sampling::NOISE_LENGTH;
 use sampling::STREAM_LENGTH;

@@ -16,7 +16,7 @@ use Rattle.scheme.specs.declared.Triple as Declared
 use Rattle.scheme.proofs.Steps.{decapsulation-through}
 use Rattle.encoding.proofs.Words.{length-elementOf}
 use Rattle.encoding.proofs.Codes.{length-ternaryOf}
-use Rattle.records.specs.Triple.{tripleBytes}
+use Rattle.triples.specs.Triple.{tripleBytes}
 use Rattle.derivation.specs.Derivation.{genuine?, entryOf, verifiedEntry}
 use Rattle.answers.specs.declared.Refusal.{Refusal}
 use Rattle.answers.specs.declared.Refusal.the-variants.{DecapsulationFailure, TagMismatch}

@@ -5,7 +5,7 @@ use Rattle.scheme.specs.Scheme.{Outcome}
 use Rattle.answers.specs.declared.Answer.{Answer}
 use Rattle.records.specs.Layout.{sealedEntryMark}
 use Rattle.records.specs.Records.{firstOf, secondOf, bodyPart, tagPart, recordAnswer, c1Of, c2Of, encapsulationAnswer}
-use Rattle.records.specs.Triple.{tripleOf, tripleAnswer}
+use Rattle.triples.specs.Triple.{tripleOf, tripleAnswer}
 use Rattle.keys.specs.Keys.{secretAnswer, elementsOf, noiseTriple}
 use Rattle.calls.specs.Calls.{outcome}
 use Rattle.recovery.specs.Outcomes.{decapsulatedBy, openedBy}

@@ -1,10 +1,10 @@
 // The calls of a desk that open, which is lent a secret key. Buffers may have any length; under any answer but Done every output is as it came.
+use answers::Answer;
+use answers::Refusal;
 use keys::TRIPLE_NOISE_LENGTH;
 use ntt::FACTORS;
-use answers::Answer;
 use records::BLOCK_LENGTH;
 use records::ENCAPSULATION_LENGTH;
-use answers::Refusal;
 use records::SEALED_ENTRY_LENGTH;
 use records::SECRET_KEY_LENGTH;
 use records::TRIPLE_LENGTH;
@@ -16,7 +16,7 @@ ghost use lib.ListN.{length};
 ghost use Rattle.answers.specs.Answers.{number, onDone};
 ghost use Rattle.records.specs.Layout.{secretKeyLength, sealedEntryLength, encapsulationLength, tripleLength, blockLength};
 ghost use Rattle.records.specs.Records.{bodyPart, tagPart};
-ghost use Rattle.records.specs.Triple.{tripleBytes};
+ghost use Rattle.triples.specs.Triple.{tripleBytes};
 ghost use Rattle.keys.specs.Keys.{tripleNoiseLength};
 ghost use Rattle.calls.specs.Calls.{decapsulateAnswer, decapsulateOut, openAnswer, openOut};
 ghost use Rattle.calls.specs.Promises.{DecapsulateExact, OpenExact};
@@ -39,8 +39,8 @@ fn decapsulate_records(key: &[u8], encapsulation: &[u8], dummy: &[u8]) -> Decaps
     let b = k.b;
     let inverse = ring::reciprocals(b);
     let c = records::read_encapsulation(encapsulation);
-    let codes = records::check_triple(dummy);
-    let t = records::read_triple(dummy);
+    let codes = triples::check_triple(dummy);
+    let t = triples::read_triple(dummy);
     recovery::find_triple(k, inverse, c, codes, t, &forward, &backward)
 }
 
@@ -52,7 +52,7 @@ fn write_triple(answer: Answer, t: Triple, out: &mut [u8])
         let r = t.r;
         let e1 = t.e1;
         let e2 = t.e2;
-        records::write_triple(r, e1, e2, out);
+        triples::write_triple(r, e1, e2, out);
     }
 }
 

@@ -19,7 +19,6 @@ use Rattle.answers.specs.declared.Answer.the-variants.{Done}
 use Rattle.answers.specs.Answers.{refusalNumber, unless}
 use Rattle.records.specs.Records.{part, headerAnswer, wordsAnswer, codesAnswer, elementsAnswer, firstOf, secondOf, recordAnswer}
 use Rattle.records.specs.Records.{c1Of, c2Of, encapsulationAnswer}
-use Rattle.records.specs.Triple.{tripleAnswer}
 use Rattle.records.specs.WellFormed.{WellFormedFront}
 use Rattle.answers.proofs.AnswerLaws.{unless-done, then-done, Never, done-never, unless-never, then-never}
 
@@ -62,16 +61,6 @@ pub encapsulation-done : (bytes : List ℕ) → (encapsulationAnswer bytes ≡ D
 unfolding encapsulationAnswer
 encapsulation-done bytes = elements-done (c1Of bytes) (c2Of bytes) (length-elementOf _) (length-elementOf _)
 
-pub triple-done : (bytes : List ℕ) → (tripleAnswer bytes ≡ Done)
-    ↔ ((firstInvalidCode (part 0 256 bytes) ≡ 1024) × (firstInvalidCode (part 256 256 bytes) ≡ 1024) × (firstInvalidCode (part 512 256 bytes) ≡ 1024))
-unfolding tripleAnswer
-triple-done bytes =
-    Iff·trans
-    (Iff·trans (then-done _ _)
-    (Iff·and (codes-done (part 0 256 bytes))
-    (Iff·trans (then-done _ _) (Iff·and (codes-done (part 256 256 bytes)) (codes-done (part 512 256 bytes))))))
-    (λ (r, (e1, e2)). (r, e1, e2), λ (r, e1, e2). (r, (e1, e2)))
-
 -- ---- these checks say 2, 3, 4 and 5 only
 
 module _ {k : ℕ} (h : 5 < k) where
@@ -101,7 +90,3 @@ module _ {k : ℕ} (h : 5 < k) where
   pub encapsulation-never : (bytes : List ℕ) → Never k (encapsulationAnswer bytes)
   unfolding encapsulationAnswer
   encapsulation-never bytes = elements-never (firstUnreduced (c1Of bytes)) (firstUnreduced (c2Of bytes))
-
-  pub triple-never : (bytes : List ℕ) → Never k (tripleAnswer bytes)
-  unfolding tripleAnswer
-  triple-never bytes = then-never (codes-never (part 0 256 bytes)) (then-never (codes-never (part 256 256 bytes)) (codes-never (part 512 256 bytes)))

@@ -1,7 +1,6 @@
 -- Records as bytes.
 pub mod Layout
 pub mod Records
-pub mod Triple
 pub mod Read
 -- when they are well formed
 pub mod WellFormed

@@ -7,9 +7,8 @@ use lib.ListN.{length}
 use Rattle.ring.specs.Ring.{n, Element}
 use Rattle.encoding.specs.Codes.{firstInvalidCode}
 use Rattle.encoding.specs.Header.{hasMark, versionOf}
-use Rattle.records.specs.Layout.{publicKeyMark, secretKeyMark, sealedEntryMark, publicKeyLength, secretKeyLength, sealedEntryLength, encapsulationLength, tripleLength}
+use Rattle.records.specs.Layout.{publicKeyMark, secretKeyMark, sealedEntryMark, publicKeyLength, secretKeyLength, sealedEntryLength, encapsulationLength}
 use Rattle.records.specs.Records.{firstOf, secondOf, codesPart, c1Of, c2Of}
-use Rattle.records.specs.Triple.{rPart, e1Part, e2Part}
 
 -- the front of a public key, a secret key and a sealed entry: mark, version, and every word below q
 pub record WellFormedFront (mark : List ℕ) (version : ℕ) (bytes : List ℕ) : Type 0 where
@@ -39,10 +38,3 @@ pub record WellFormedEncapsulation (c : List ℕ) : Type 0 where
   pub size : length c ≡ encapsulationLength
   pub c1-words : Element (c1Of c)
   pub c2-words : Element (c2Of c)
-
--- a triple: no code is 3
-pub record WellFormedTriple (t : List ℕ) : Type 0 where
-  pub size : length t ≡ tripleLength
-  pub r-codes : firstInvalidCode (rPart t) ≡ n
-  pub e1-codes : firstInvalidCode (e1Part t) ≡ n
-  pub e2-codes : firstInvalidCode (e2Part t) ≡ n

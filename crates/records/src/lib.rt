@@ -8,20 +8,16 @@ use encoding::MARK_LENGTH;
 use encoding::TERNARY_LENGTH;
 use ntt::DEGREE;
 use ntt::Element;
-use scheme::Triple;
 ghost use mathlib.Core.Path.{_≡_};
 ghost use mathlib.Core.List.{_++_};
 ghost use Prim.Native.Nat.{_≤_};
 ghost use lib.ListN.{length, drop};
-ghost use Rattle.scheme.specs.Answers as Struct;
 ghost use Rattle.encoding.specs.Words.{firstUnreduced};
-ghost use Rattle.encoding.specs.Buffers.{putFront};
 ghost use Rattle.answers.specs.declared.Answer.the-variants.{Done};
-ghost use Rattle.records.specs.Layout.{sealedEntryMark, publicKeyLength, secretKeyLength, sealedEntryLength, encapsulationLength, tripleLength, blockLength, thirdPlace};
+ghost use Rattle.records.specs.Layout.{sealedEntryMark, publicKeyLength, secretKeyLength, sealedEntryLength, encapsulationLength, blockLength, thirdPlace};
 ghost use Rattle.records.specs.Records.{headerAnswer, wordsAnswer, codesAnswer, elementsAnswer, firstOf, secondOf, bodyPart, tagPart, recordBytes};
 ghost use Rattle.records.specs.Read.{frontOf};
 ghost use Rattle.records.specs.Records.{publicKeyBytes, secretKeyBytes, sealedEntryBytes, c1Of, c2Of, encapsulationBytes};
-ghost use Rattle.records.specs.Triple.{tripleOf, tripleAnswer, tripleBytes};
 
 // ---- layout: marks, places and lengths
 
@@ -53,11 +49,6 @@ pub const SEALED_ENTRY_LENGTH: usize = TAG + BLOCK_LENGTH;
 pub const ENCAPSULATION_LENGTH: usize = 2 * ELEMENT_LENGTH;
 
 pub const TRIPLE_LENGTH: usize = 3 * TERNARY_LENGTH;
-
-// Where e1 and e2 start in a triple.
-const E1: usize = TERNARY_LENGTH;
-
-const E2: usize = 2 * TERNARY_LENGTH;
 
 // ---- checks
 
@@ -241,41 +232,6 @@ pub fn write_encapsulation(c1: Element, c2: Element, out: &mut [u8])
 {
     encoding::encode_element(c1, &mut out[0..ELEMENT_LENGTH]);
     encoding::encode_element(c2, &mut out[ELEMENT_LENGTH..ENCAPSULATION_LENGTH]);
-}
-
-// ---- triples
-
-// 5: no code of a triple is 3.
-pub fn check_triple(bytes: &[u8]) -> Answer
-    requires { ⌜ length (now bytes) ≡ tripleLength ⌝ }
-    ensures { λ a. ⌜ a ≡ tripleAnswer (now (bytes .entry)) ⌝ }
-{
-    let r = check_codes(&bytes[0..E1]);
-    let e1 = check_codes(&bytes[E1..E2]);
-    let e2 = check_codes(&bytes[E2..TRIPLE_LENGTH]);
-    answers::and_then(r, answers::and_then(e1, e2))
-}
-
-// Of 768 bytes, whatever their codes.
-pub fn read_triple(bytes: &[u8]) -> Triple
-    requires { ⌜ length (now bytes) ≡ tripleLength ⌝ }
-    ensures { λ t. ⌜ Struct.tripleOf t ≡ tripleOf (now (bytes .entry)) ⌝ }
-{
-    let r = encoding::decode_ternary(&bytes[0..E1]);
-    let e1 = encoding::decode_ternary(&bytes[E1..E2]);
-    let e2 = encoding::decode_ternary(&bytes[E2..TRIPLE_LENGTH]);
-    Triple { r, e1, e2 }
-}
-
-// Writes the bytes of a triple at the front of a buffer; one that is too short stays as it came.
-pub fn write_triple(r: Element, e1: Element, e2: Element, out: &mut [u8])
-    ensures { λ _. ⌜ now (out .exit) ≡ putFront (tripleBytes r e1 e2) (now (out .entry)) ⌝ }
-{
-    if out.len() >= TRIPLE_LENGTH {
-        encoding::encode_ternary(r, &mut out[0..E1]);
-        encoding::encode_ternary(e1, &mut out[E1..E2]);
-        encoding::encode_ternary(e2, &mut out[E2..TRIPLE_LENGTH]);
-    }
 }
 
 // ---- blocks of 16 bytes: entries, bodies and tags

@@ -1,11 +1,11 @@
 // Openings of what was read: a secret key, from whatever source, an encapsulation or a sealed entry, and a dummy. Every answer is worked
 // out before they are joined in document 01's order; beside a refusal stand zeros.
+use answers::Answer;
+use answers::Refusal;
 use keys::SecretKey;
 use ntt::Spectrum;
-use answers::Answer;
 use records::BLOCK_LENGTH;
 use records::Elements;
-use answers::Refusal;
 use records::SealedEntry;
 use scheme::Encapsulation;
 use scheme::Triple;

@@ -1,11 +1,11 @@
 // Seals an entry. Standard input is the public key (4,101 bytes), 1,536 random bytes of noise and the entry (16). Standard output is
 // the sealed entry (4,133 bytes). A refusal writes its number to standard error and nothing else. The exit status is always 0,
 // since the language has no other.
-use keys::TRIPLE_NOISE_LENGTH;
 use answers::Answer;
+use answers::Refusal;
+use keys::TRIPLE_NOISE_LENGTH;
 use records::BLOCK_LENGTH;
 use records::PUBLIC_KEY_LENGTH;
-use answers::Refusal;
 use records::SEALED_ENTRY_LENGTH;
 ghost use mathlib.Core.Path.{_≡_};
 ghost use mathlib.Core.List.{[]};

@@ -1,13 +1,13 @@
 // The calls of a console, which is lent a public key. Buffers may have any length; under any answer but Done every output is as it came.
+use answers::Answer;
+use answers::Refusal;
 use keys::PublicKey;
 use keys::TRIPLE_NOISE_LENGTH;
 use ntt::Element;
 use ntt::FACTORS;
-use answers::Answer;
 use records::BLOCK_LENGTH;
 use records::ENCAPSULATION_LENGTH;
 use records::PUBLIC_KEY_LENGTH;
-use answers::Refusal;
 use records::SEALED_ENTRY_LENGTH;
 use records::TRIPLE_LENGTH;
 use scheme::Triple;
@@ -20,7 +20,7 @@ ghost use Rattle.scheme.specs.Answers as Struct;
 ghost use Rattle.answers.specs.Answers.{andThen, onDone};
 ghost use Rattle.records.specs.Layout.{publicKeyLength, sealedEntryLength, encapsulationLength, tripleLength, blockLength};
 ghost use Rattle.records.specs.Records.{firstOf, secondOf, sealedEntryBytes, encapsulationBytes};
-ghost use Rattle.records.specs.Triple.{tripleOf, tripleAnswer};
+ghost use Rattle.triples.specs.Triple.{tripleOf, tripleAnswer};
 ghost use Rattle.keys.specs.Keys.{publicAnswer, tripleNoiseLength};
 ghost use Rattle.calls.specs.Calls.{encapsulateAnswer, encapsulatedWith, encapsulateOut, sealAnswer, sealedWith, sealedBytes, sealOut};
 
@@ -69,8 +69,8 @@ fn encapsulate_records(key: &[u8], triple: &[u8]) -> Encapsulated
     ntt::forward_factors(&mut forward);
     ntt::backward_factors(&mut backward);
     let k = keys::read_public_key(key, &forward);
-    let codes = records::check_triple(triple);
-    let t = records::read_triple(triple);
+    let codes = triples::check_triple(triple);
+    let t = triples::read_triple(triple);
     encapsulate_with(k, codes, t, &forward, &backward)
 }
 

@@ -2,7 +2,7 @@ use mathlib.Core.Path.{_≡_, ap, _∙_}
 use mathlib.Core.List.{List, _∷_, append-nil}
 use Prim.Native.Nat.{ℕ}
 use Rattle.encoding.proofs.Buffers.{put-exact}
-use Rattle.records.proofs.Triples.{length-tripleBytes}
+use Rattle.triples.proofs.Triples.{length-tripleBytes}
 use borrow.Author.Needs.{needs}
 use Rattle.derivation.proofs.key_input.Statement.{statement}
 use Rattle.derivation.proofs.key_input.Tie as tie

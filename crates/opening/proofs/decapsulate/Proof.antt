@@ -7,10 +7,10 @@ use borrow.Author.Tests.{not-true, not-false}
 use Rattle.answers.specs.declared.Refusal.the-variants.{WrongLength}
 use Rattle.answers.specs.declared.Answer.{Answer}
 use Rattle.answers.specs.Answers.{number, unless, andThen, onDone}
-use Rattle.records.specs.Triple.{tripleBytes}
+use Rattle.triples.specs.Triple.{tripleBytes}
 use Rattle.scheme.specs.Scheme.{Triple}
 use Rattle.records.specs.Records.{encapsulationAnswer}
-use Rattle.records.specs.Triple.{tripleAnswer}
+use Rattle.triples.specs.Triple.{tripleAnswer}
 use Rattle.keys.specs.Keys.{secretAnswer}
 use Rattle.calls.specs.Calls.{outcomeAnswer, outcomeBytes, decapsulateAnswer, decapsulateOut}
 use Rattle.opening.specs.Parts.{decapsulatedOutcome, decapsulatedAnswer}

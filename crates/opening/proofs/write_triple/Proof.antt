@@ -6,8 +6,8 @@ use Rattle.answers.specs.declared.Answer.{Answer}
 use Rattle.answers.specs.Answers.{onDone}
 use lib.ListN.{length}
 use Rattle.encoding.proofs.Buffers.{put-exact}
-use Rattle.records.specs.Triple.{tripleBytes}
-use Rattle.records.proofs.Triples.{length-tripleBytes}
+use Rattle.triples.specs.Triple.{tripleBytes}
+use Rattle.triples.proofs.Triples.{length-tripleBytes}
 use borrow.Author.Needs.{needs}
 use Rattle.opening.proofs.write_triple.Statement.{statement}
 use Rattle.opening.proofs.write_triple.Tie as tie

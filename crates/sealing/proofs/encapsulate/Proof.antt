@@ -9,7 +9,7 @@ use borrow.Author.Tests.{not-true, not-false}
 use Rattle.answers.specs.declared.Refusal.the-variants.{WrongLength}
 use Rattle.answers.specs.declared.Answer.{Answer}
 use Rattle.answers.specs.Answers.{unless, andThen, onDone}
-use Rattle.records.specs.Triple.{tripleOf, tripleAnswer}
+use Rattle.triples.specs.Triple.{tripleOf, tripleAnswer}
 use Rattle.records.specs.Records.{firstOf, secondOf}
 use Rattle.keys.specs.Keys.{publicAnswer}
 use Rattle.calls.specs.Calls.{encapsulateAnswer, encapsulatedWith, encapsulateOut}

@@ -8,8 +8,8 @@ use Rattle.algebra.specs.Numbers.{Below}
 use Rattle.algebra.proofs.Numbers.{below-append}
 use Rattle.encoding.specs.Codes.{ternaryBytes}
 use Rattle.encoding.proofs.Codes.{length-ternaryBytes, ternaryBytes-below}
 use Rattle.records.specs.Layout.{tripleLength}
-use Rattle.records.specs.Triple.{tripleBytes}
+use Rattle.triples.specs.Triple.{tripleBytes}
 
 module _ (r e1 e2 : List ℕ) where
   pub length-tripleBytes : length (tripleBytes r e1 e2) ≡ tripleLength

@@ -1,9 +1,9 @@
 use mathlib.Core.Path.{ap₂, _∙_}
 use Rattle.answers.specs.Answers.{andThen}
-use Rattle.records.specs.Triple.{tripleAnswer}
+use Rattle.triples.specs.Triple.{tripleAnswer}
 use borrow.Author.Needs.{needs}
-use Rattle.records.proofs.check_triple.Statement.{statement}
-use Rattle.records.proofs.check_triple.Tie as tie
+use Rattle.triples.proofs.check_triple.Statement.{statement}
+use Rattle.triples.proofs.check_triple.Tie as tie
 
 sub-check-codes : tie.Need-sub-check-codes
 sub-check-codes c = search needs

@@ -6,12 +6,12 @@ use denote.Ref.{now}
 use Rattle.encoding.specs.Codes.{ternaryBytes}
 use Rattle.encoding.proofs.Codes.{length-ternaryBytes}
 use Rattle.encoding.proofs.Buffers.{put-front, put-short}
-use Rattle.records.specs.Triple.{tripleBytes}
-use Rattle.records.proofs.Triples.{length-tripleBytes}
+use Rattle.triples.specs.Triple.{tripleBytes}
+use Rattle.triples.proofs.Triples.{length-tripleBytes}
 use Rattle.encoding.proofs.Buffers.{put-part}
 use borrow.Author.Needs.{needs}
-use Rattle.records.proofs.write_triple.Statement.{statement}
-use Rattle.records.proofs.write_triple.Tie as tie
+use Rattle.triples.proofs.write_triple.Statement.{statement}
+use Rattle.triples.proofs.write_triple.Tie as tie
 
 sub-encode-ternary : tie.Need-sub-encode-ternary
 sub-encode-ternary c = search needs

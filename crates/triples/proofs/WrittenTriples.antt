@@ -11,11 +11,10 @@ use Rattle.ring.specs.Centred.{Ternary}
 use Rattle.encoding.specs.Codes.{ternaryOf, firstInvalidCode, ternaryBytes}
 use Rattle.encoding.proofs.Codes.{ternaryOf-take, length-ternaryBytes}
 use Rattle.encoding.proofs.RoundTrips.{ternaryOf-written, ternaryOf-bytes, bytes-ternaryOf}
-use Rattle.records.specs.Triple.{tripleBytes}
 use Rattle.records.specs.Records.{part}
-use Rattle.records.specs.Triple.{rOf, e1Of, e2Of}
-use Rattle.records.specs.WellFormed.{WellFormedTriple}
 use Rattle.records.proofs.WrittenRecords.{length-both, part-behind, part-end}
+use Rattle.triples.specs.Triple.{rOf, e1Of, e2Of, tripleBytes}
+use Rattle.triples.specs.WellFormed.{WellFormedTriple}
 
 pub triple-r : (r e1 e2 : List ℕ) → Ternary r → rOf (tripleBytes r e1 e2) ≡ r
 unfolding tripleBytes

@@ -1,7 +1,7 @@
 use Rattle.scheme.proofs.Steps.{triple-same}
 use borrow.Author.Needs.{needs}
-use Rattle.records.proofs.read_triple.Statement.{statement}
-use Rattle.records.proofs.read_triple.Tie as tie
+use Rattle.triples.proofs.read_triple.Statement.{statement}
+use Rattle.triples.proofs.read_triple.Tie as tie
 
 sub-decode-ternary : tie.Need-sub-decode-ternary
 sub-decode-ternary c = search needs
