@@ -38,7 +38,7 @@ fn decapsulate_records(key: &[u8], encapsulation: &[u8], dummy: &[u8]) -> Decaps
     let k = keys::read_secret_key(key, &forward, &backward);
     let b = k.b;
     let inverse = ring::reciprocals(b);
-    let c = records::read_encapsulation(encapsulation);
+    let c = sealed_records::read_encapsulation(encapsulation);
     let codes = triples::check_triple(dummy);
     let t = triples::read_triple(dummy);
     recovery::find_triple(k, inverse, c, codes, t, &forward, &backward)
@@ -90,7 +90,7 @@ fn open_records(key: &[u8], sealed: &[u8], noise: &[u8]) -> Opened
     let k = keys::read_secret_key(key, &forward, &backward);
     let b = k.b;
     let inverse = ring::reciprocals(b);
-    let e = records::read_sealed_entry(sealed);
+    let e = sealed_records::read_sealed_entry(sealed);
     let dummy = keys::noise_triple(noise);
     recovery::recover_entry(k, inverse, e, dummy, &forward, &backward)
 }
@@ -100,7 +100,7 @@ fn write_entry(answer: Answer, entry: [u8; BLOCK_LENGTH], out: &mut [u8])
     ensures { λ _. ⌜ now (out .exit) ≡ onDone answer entry (now (out .entry)) ⌝ }
 {
     if let Answer::Done = answer {
-        records::write_block(entry, out);
+        sealed_records::write_block(entry, out);
     }
 }
 

@@ -79,7 +79,7 @@ fn write_encapsulation(answer: Answer, c1: Element, c2: Element, out: &mut [u8])
     ensures { λ _. ⌜ now (out .exit) ≡ onDone answer (encapsulationBytes c1 c2) (now (out .entry)) ⌝ }
 {
     if let Answer::Done = answer {
-        records::write_encapsulation(c1, c2, out);
+        sealed_records::write_encapsulation(c1, c2, out);
     }
 }
 
@@ -157,7 +157,7 @@ fn seal_records(key: &[u8], noise: &[u8], entry: &[u8]) -> Sealed
     ntt::backward_factors(&mut backward);
     let k = keys::read_public_key(key, &forward);
     let t = keys::noise_triple(noise);
-    let block = records::read_block(entry);
+    let block = sealed_records::read_block(entry);
     seal_with(k, t, block, &forward, &backward)
 }
 
@@ -170,7 +170,7 @@ fn write_sealed(answer: Answer, s: Sealed, out: &mut [u8])
         let c2 = s.c2;
         let body = s.body;
         let tag = s.tag;
-        records::write_sealed_entry(c1, c2, body, tag, out);
+        sealed_records::write_sealed_entry(c1, c2, body, tag, out);
     }
 }
 

@@ -1,8 +1,8 @@
 use mathlib.Core.Path.{refl, ap, _∙_}
 use Rattle.encoding.specs.Words.{firstUnreduced}
 use borrow.Author.Needs.{needs}
-use Rattle.records.proofs.read_encapsulation.Statement.{statement}
-use Rattle.records.proofs.read_encapsulation.Tie as tie
+use Rattle.sealed_records.proofs.read_encapsulation.Statement.{statement}
+use Rattle.sealed_records.proofs.read_encapsulation.Tie as tie
 
 sub-decode-element : tie.Need-sub-decode-element
 sub-decode-element c = search needs

@@ -4,12 +4,12 @@ use native.Mathlib.Omega.{arith}
 use denote.Ref.{now}
 use lib.ListN.{length, length-append}
 use Rattle.encoding.proofs.Buffers.{put-plain, put-all}
 use Rattle.records.specs.Layout.{sealedEntryMark, sealedEntryLength, blockLength, thirdPlace, tagPlace}
 use Rattle.records.specs.Records.{recordBytes}
 use Rattle.records.proofs.Writing.{length-recordBytes}
 use borrow.Author.Needs.{needs}
-use Rattle.records.proofs.write_sealed_entry.Statement.{statement}
-use Rattle.records.proofs.write_sealed_entry.Tie as tie
+use Rattle.sealed_records.proofs.write_sealed_entry.Statement.{statement}
+use Rattle.sealed_records.proofs.write_sealed_entry.Tie as tie
 
 write-record-requires : tie.Need-write-record-requires
 write-record-requires c κs = search needs

@@ -1,6 +1,6 @@
 use borrow.Author.Needs.{needs}
-use Rattle.records.proofs.read_sealed_entry.Statement.{statement}
-use Rattle.records.proofs.read_sealed_entry.Tie as tie
+use Rattle.sealed_records.proofs.read_sealed_entry.Statement.{statement}
+use Rattle.sealed_records.proofs.read_sealed_entry.Tie as tie
 
 read-record-requires : tie.Need-read-record-requires
 read-record-requires c κs = search needs

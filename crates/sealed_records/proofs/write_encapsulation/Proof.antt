@@ -6,11 +6,11 @@ use denote.Ref.{now}
 use Rattle.encoding.specs.Words.{elementBytes}
 use Rattle.encoding.proofs.Words.{length-elementBytes}
 use Rattle.encoding.proofs.Buffers.{put-all}
 use Rattle.records.specs.Records.{encapsulationBytes}
 use Rattle.encoding.proofs.Buffers.{put-first, put-part}
 use borrow.Author.Needs.{needs}
-use Rattle.records.proofs.write_encapsulation.Statement.{statement}
-use Rattle.records.proofs.write_encapsulation.Tie as tie
+use Rattle.sealed_records.proofs.write_encapsulation.Statement.{statement}
+use Rattle.sealed_records.proofs.write_encapsulation.Tie as tie
 
 sub-encode-element : tie.Need-sub-encode-element
 sub-encode-element c = search needs
