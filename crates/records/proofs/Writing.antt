@@ -1,5 +1,5 @@
--- How long what is written is.
-use mathlib.Core.Path.{_≡_}
+-- What is written: how long it is, and under which mark.
+use mathlib.Core.Path.{_≡_, ap, _∙_}
 use mathlib.Core.List.{List, _++_}
 use Prim.Native.Nat.{ℕ}
 use native.Mathlib.Omega.{arith}
@@ -18,3 +18,8 @@ length-recordBytes mark version first second =
     let x = elementBytes first in
     let y = elementBytes second in
     omega (arith, length-append (h ++ x) y, length-append h x, length-header mark version, length-elementBytes first, length-elementBytes second)
+
+-- the mark is compared by itself, so that a wrong one is seen at once
+pub marked : (mark meant : List ℕ) (version : ℕ) (first second rest : List ℕ) {out : List ℕ} → out ≡ recordBytes mark version first second ++ rest
+    → mark ≡ meant → out ≡ recordBytes meant version first second ++ rest
+marked mark meant version first second rest written same = written ∙ ap (λ (m : List ℕ). recordBytes m version first second ++ rest) same

@@ -2,13 +2,13 @@ use mathlib.Core.Path.{_≡_, refl, _∙_}
 use mathlib.Core.List.{_++_}
 use native.Mathlib.Omega.{arith}
 use denote.Ref.{now}
-use lib.ListN.{length}
+use lib.ListN.{length, drop}
 use Rattle.encoding.specs.Codes.{ternaryBytes}
 use Rattle.encoding.proofs.Codes.{length-ternaryBytes}
 use Rattle.encoding.proofs.Buffers.{put-part, put-all}
 use Rattle.records.specs.Layout.{secretKeyMark, secretKeyLength, thirdPlace, ternaryLength}
 use Rattle.records.specs.Records.{recordBytes}
-use Rattle.records.proofs.Writing.{length-recordBytes}
+use Rattle.records.proofs.Writing.{length-recordBytes, marked}
 use borrow.Author.Needs.{needs}
 use Rattle.records.proofs.write_secret_key.Statement.{statement}
 use Rattle.records.proofs.write_secret_key.Tie as tie
@@ -39,7 +39,9 @@ returns c =
     let front = recordBytes secretKeyMark 1 (args .a) (args .b) in
     let s = ternaryBytes (args .s) in
     let size : length old ≡ secretKeyLength = start .pre in
-    put-part front s old _ thirdPlace ternaryLength (c .before .before .before .before .before .before .write-record .ensures)
+    let first =
+    marked _ secretKeyMark 1 (args .a) (args .b) (drop thirdPlace old) (c .before .before .before .before .before .before .write-record .ensures) refl in
+    put-part front s old _ thirdPlace ternaryLength first
     (length-recordBytes secretKeyMark 1 (args .a) (args .b)) (length-ternaryBytes (args .s)) refl (omega arith) (c .before .before .encode-ternary .ensures)
     ∙ put-all (front ++ s) old secretKeyLength (omega arith)
 
