@@ -1,4 +1,4 @@
--- What is written: how long it is, and under which mark.
+-- What is written: how long it is, and of what.
 use mathlib.Core.Path.{_≡_, ap, _∙_}
 use mathlib.Core.List.{List, _++_}
 use Prim.Native.Nat.{ℕ}
@@ -19,7 +19,6 @@ length-recordBytes mark version first second =
     let y = elementBytes second in
     omega (arith, length-append (h ++ x) y, length-append h x, length-header mark version, length-elementBytes first, length-elementBytes second)
 
--- the mark is compared by itself, so that a wrong one is seen at once
-pub marked : (mark meant : List ℕ) (version : ℕ) (first second rest : List ℕ) {out : List ℕ} → out ≡ recordBytes mark version first second ++ rest
-    → mark ≡ meant → out ≡ recordBytes meant version first second ++ rest
-marked mark meant version first second rest written same = written ∙ ap (λ (m : List ℕ). recordBytes m version first second ++ rest) same
+-- an argument is compared by itself, so that a wrong one is seen at once
+pub argument-is : (f : List ℕ → List ℕ) (given meant : List ℕ) {out : List ℕ} → out ≡ f given → given ≡ meant → out ≡ f meant
+argument-is f given meant written same = written ∙ ap f same

@@ -1,5 +1,6 @@
 use mathlib.Core.Path.{_≡_, refl, _∙_}
-use mathlib.Core.List.{_++_}
+use mathlib.Core.List.{List, _++_}
+use Prim.Native.Nat.{ℕ}
 use native.Mathlib.Omega.{arith}
 use denote.Ref.{now}
 use lib.ListN.{length, drop}
@@ -8,7 +9,7 @@ use Rattle.encoding.proofs.Codes.{length-ternaryBytes}
 use Rattle.encoding.proofs.Buffers.{put-part, put-all}
 use Rattle.records.specs.Layout.{secretKeyMark, secretKeyLength, thirdPlace, ternaryLength}
 use Rattle.records.specs.Records.{recordBytes}
-use Rattle.records.proofs.Writing.{length-recordBytes, marked}
+use Rattle.records.proofs.Writing.{length-recordBytes, argument-is}
 use borrow.Author.Needs.{needs}
 use Rattle.records.proofs.write_secret_key.Statement.{statement}
 use Rattle.records.proofs.write_secret_key.Tie as tie
@@ -40,7 +41,8 @@ returns c =
     let s = ternaryBytes (args .s) in
     let size : length old ≡ secretKeyLength = start .pre in
     let first =
-    marked _ secretKeyMark 1 (args .a) (args .b) (drop thirdPlace old) (c .before .before .before .before .before .before .write-record .ensures) refl in
+    argument-is (λ (mark : List ℕ). recordBytes mark 1 (args .a) (args .b) ++ drop thirdPlace old) _ secretKeyMark
+    (c .before .before .before .before .before .before .write-record .ensures) refl in
     put-part front s old _ thirdPlace ternaryLength first
     (length-recordBytes secretKeyMark 1 (args .a) (args .b)) (length-ternaryBytes (args .s)) refl (omega arith) (c .before .before .encode-ternary .ensures)
     ∙ put-all (front ++ s) old secretKeyLength (omega arith)

@@ -1,13 +1,15 @@
 use mathlib.Core.Path.{_≡_, refl, _∙_}
-use mathlib.Core.List.{_++_}
+use mathlib.Core.List.{List, _++_}
+use Prim.Native.Nat.{ℕ}
 use native.Mathlib.Omega.{arith}
-use lib.ListN.{length, length-append}
+use lib.ListN.{length, take}
 use denote.Ref.{now}
 use Rattle.encoding.specs.Words.{elementBytes}
 use Rattle.encoding.proofs.Words.{length-elementBytes}
-use Rattle.encoding.proofs.Buffers.{put-all}
+use Rattle.encoding.specs.Buffers.{putFront}
+use Rattle.encoding.proofs.Buffers.{put-first, put-part, put-all}
 use Rattle.records.specs.Records.{encapsulationBytes}
-use Rattle.encoding.proofs.Buffers.{put-first, put-part}
+use Rattle.records.proofs.Writing.{argument-is}
 use borrow.Author.Needs.{needs}
 use Rattle.sealed_records.proofs.write_encapsulation.Statement.{statement}
 use Rattle.sealed_records.proofs.write_encapsulation.Tie as tie
@@ -47,7 +49,10 @@ returns c =
     let c1 = elementBytes (start .args .c1) in
     let c2 = elementBytes (start .args .c2) in
     let size : length old ≡ 4096 = start .pre in
-    put-part c1 c2 old _ 2048 2048 (put-first c1 old 2048 (length-elementBytes (start .args .c1)) (omega arith) (c .before .before .before .before .before .before .encode-element .ensures))
+    let first =
+    argument-is (λ (x : List ℕ). putFront (elementBytes x) (take 2048 old)) _ (start .args .c1)
+    (c .before .before .before .before .before .before .encode-element .ensures) refl in
+    put-part c1 c2 old _ 2048 2048 (put-first c1 old 2048 (length-elementBytes (start .args .c1)) (omega arith) first)
     (length-elementBytes (start .args .c1)) (length-elementBytes (start .args .c2)) refl (omega arith) (c .before .before .encode-element2 .ensures)
     ∙ put-all (c1 ++ c2) old 4096 (omega arith)
 
