@@ -56,12 +56,12 @@ extern "C" {
 
 /* The stack that each call takes at most, in bytes, what memcpy and memset take aside. Measured, not proved: tests/stack.sh fails where a
  * call takes more. No call takes more for longer input. */
-#define POLKA_KEYGEN_STACK (53 * 1024)
-#define POLKA_CHECK_SECRET_KEY_STACK (85 * 1024)
-#define POLKA_ENCAPSULATE_STACK (73 * 1024)
-#define POLKA_DECAPSULATE_STACK (131 * 1024)
-#define POLKA_SEAL_STACK (74 * 1024)
-#define POLKA_OPEN_STACK (127 * 1024)
+#define POLKA_KEYGEN_STACK (51 * 1024)
+#define POLKA_CHECK_SECRET_KEY_STACK (57 * 1024)
+#define POLKA_ENCAPSULATE_STACK (63 * 1024)
+#define POLKA_DECAPSULATE_STACK (101 * 1024)
+#define POLKA_SEAL_STACK (65 * 1024)
+#define POLKA_OPEN_STACK (97 * 1024)
 #define POLKA_SHAKE256_STACK (2 * 1024)
 
 /* What the calls answer, with document 01's word. */
