@@ -1,5 +1,5 @@
 -- The desk's line by its answer, and how a text holds it.
-use mathlib.Core.Path.{_≡_, refl, sym, ap, _∙_}
+use mathlib.Core.Path.{_≡_, refl, sym, ap, ap₂, _∙_}
 use mathlib.Core.Bool.{Bool}
 use mathlib.Core.List.{List, [], _∷_, _++_, append-nil}
 use Prim.Native.Nat.{ℕ, _+_, _≤_, min}
@@ -51,19 +51,21 @@ pub answer-by-length : (input : List ℕ) {fits : Bool} → eqb (length input) 1
 unfolding deskAnswer
 answer-by-length input e = ap (λ (b : Bool). unless b WrongLength (openAnswer (keyPart input) (sealedPart input) (dummyPart input) 16)) e
 
-pub done-line : (input : List ℕ) → deskAnswer input ≡ Done → deskLine input ≡ lineOf 0 (textOf (deskEntry input))
+pub line-by-answer : (input : List ℕ) {answer : Answer} {entry : List ℕ} → answer ≡ deskAnswer input → entry ≡ deskEntry input
+    → deskLine input ≡ lineOf (number answer) (shown answer entry)
 unfolding deskLine
-done-line input e = ap (λ (a : Answer). lineOf (number a) (shown a (deskEntry input))) e
+line-by-answer input a e = ap₂ (λ (x : Answer) (y : List ℕ). lineOf (number x) (shown x y)) (sym a) (sym e)
 
-pub refused-line : (input : List ℕ) (answer : Answer) {r : Refusal} {n : ℕ} → deskAnswer input ≡ answer → answer ≡ Refused r → n ≡ number answer
-    → deskLine input ≡ lineOf n (45 ∷ [])
-unfolding deskLine
-refused-line input answer e told m =
-    ap (λ (a : Answer). lineOf (number a) (shown a (deskEntry input))) (e ∙ told) ∙ sym (ap (λ (k : ℕ). lineOf k (45 ∷ [])) (m ∙ ap number told))
+pub done-line : {answer : Answer} (entry : List ℕ) → answer ≡ Done → lineOf (number answer) (shown answer entry) ≡ lineOf 0 (textOf entry)
+done-line entry e = ap (λ (a : Answer). lineOf (number a) (shown a entry)) e
+
+pub refused-line : {answer : Answer} (entry : List ℕ) {r : Refusal} {n : ℕ} → answer ≡ Refused r → n ≡ number answer
+    → lineOf (number answer) (shown answer entry) ≡ lineOf n (45 ∷ [])
+refused-line entry told m = ap (λ (a : Answer). lineOf (number a) (shown a entry)) told ∙ sym (ap (λ (k : ℕ). lineOf k (45 ∷ [])) (m ∙ ap number told))
 
 -- input that is shorter or longer, as empty input is, prints "1 -"
 pub other-length-line : (input : List ℕ) → ¬ (length input ≡ 10026) → deskLine input ≡ lineOf 1 (45 ∷ [])
-other-length-line input h = refused-line input (Refused WrongLength) (answer-by-length input (ne-eqb (length input) 10026 h)) refl refl
+other-length-line input h = line-by-answer input (sym (answer-by-length input (ne-eqb (length input) 10026 h))) refl
 
 pub empty-line : deskLine [] ≡ 49 ∷ 32 ∷ 45 ∷ 10 ∷ []
 unfolding digitsOf

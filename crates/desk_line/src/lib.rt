@@ -11,7 +11,8 @@ ghost use lib.ListN.{length};
 ghost use Rattle.lists.specs.Table.{zeros};
 ghost use Rattle.hex.specs.Hex.{textOf};
 ghost use Rattle.text.specs.Text.{written};
-ghost use Rattle.desk_line.specs.Line.{lineOf, deskLine};
+ghost use Rattle.answers.specs.Answers.{number};
+ghost use Rattle.desk_line.specs.Line.{inputLength, deskAnswer, deskEntry, shown, lineOf, deskLine};
 
 // Where the sealed entry and the dummy's noise start, behind the secret key, and where the noise ends.
 const SEALED: usize = SECRET_KEY_LENGTH;
@@ -60,6 +61,39 @@ fn refusal_line(n: u32) -> Text
     line_of(n, b"-")
 }
 
+// The line of an answer, which shows the entry only under Done.
+fn answer_line(answer: Answer, entry: [u8; BLOCK_LENGTH]) -> Text
+    ensures { λ r. ⌜ r .bytes ≡ written (lineOf (number answer) (shown answer entry)) (zeros 35) ⌝ }
+    ensures { λ r. ⌜ (r .length ≡ length (lineOf (number answer) (shown answer entry))) × (r .length ≤ 35) ⌝ }
+{
+    if let Answer::Done = answer {
+        return entry_line(entry);
+    }
+    refusal_line(answers::number(answer))
+}
+
+// What opening answers, and what it writes into zeros.
+struct Opened {
+    answer: Answer,
+    entry: [u8; BLOCK_LENGTH],
+}
+
+// Opens an input of the right length.
+fn open_input(input: &[u8]) -> Opened
+    requires { ⌜ length (now input) ≡ inputLength ⌝ }
+    ensures { λ r. ⌜ r .answer ≡ deskAnswer (now (input .entry)) ⌝ }
+    ensures { λ r. ⌜ r .entry ≡ deskEntry (now (input .entry)) ⌝ }
+{
+    let mut entry = [0u8; BLOCK_LENGTH];
+    let answer = opening::open(
+        &input[0..SEALED],
+        &input[SEALED..DUMMY],
+        &input[DUMMY..INPUT_LENGTH],
+        &mut entry,
+    );
+    Opened { answer, entry }
+}
+
 // The line for an input of any length.
 pub fn line(input: &[u8]) -> Text
     ensures { λ r. ⌜ r .bytes ≡ written (deskLine (now (input .entry))) (zeros 35) ⌝ }
@@ -68,15 +102,8 @@ pub fn line(input: &[u8]) -> Text
     if input.len() != INPUT_LENGTH {
         return refusal_line(1);
     }
-    let mut entry = [0u8; BLOCK_LENGTH];
-    let answer = opening::open(
-        &input[0..SEALED],
-        &input[SEALED..DUMMY],
-        &input[DUMMY..INPUT_LENGTH],
-        &mut entry,
-    );
-    if let Answer::Done = answer {
-        return entry_line(entry);
-    }
-    refusal_line(answers::number(answer))
+    let opened = open_input(input);
+    let answer = opened.answer;
+    let entry = opened.entry;
+    answer_line(answer, entry)
 }

@@ -3,7 +3,7 @@ use mathlib.Core.List.{[], _∷_}
 use native.Mathlib.Omega.{arith}
 use Rattle.lists.proofs.Tables.{getD-table}
 use Rattle.encoding.proofs.Digits.{digit-first}
-use Rattle.sampling.specs.Noise.{noiseCoefficient, nibbleAt, ternaryNoise}
+use Rattle.sampling.specs.Noise.{noiseCoefficient, nibbleAt, noiseBy}
 use borrow.Author.Needs.{needs}
 use Rattle.sampling_vectors.proofs.coefficient.Statement.{statement}
 use Rattle.sampling_vectors.proofs.coefficient.Tie as tie
@@ -18,7 +18,7 @@ array-read-result : tie.Need-array-read-result
 array-read-result c = search needs
 
 returns : tie.Need-returns
-unfolding ternaryNoise
+unfolding noiseBy
 returns c =
     let t = c .before .before .args .t in
     let bits : nibbleAt (t ∷ []) 0 ≡ t = digit-first 16 2 (t ∷ []) 0 (omega arith) ∙ omega (arith, c .before .before .pre) in
