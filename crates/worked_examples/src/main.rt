@@ -1,10 +1,8 @@
 // Works through the worked examples of document 01 ("Lanes to try") that bear no star, and prints each with its result. Where they speak
 // of bytes, they go through the public calls. Openings are shown under two dummies: zeros, and one with all three coefficients.
 ghost use mathlib.Core.Path.{_≡_};
-ghost use Prim.Native.Nat.{_≤_};
 ghost use lib.ListN.{length};
 ghost use Rattle.records.specs.Layout.{tripleLength};
-ghost use Rattle.worked_examples.specs.Made.{term, constant, secretKey, publicKey, encapsulation, sealedEntry, stream};
 use answers::Answer;
 use encoding::TERNARY_LENGTH;
 use keys::TRIPLE_NOISE_LENGTH;
@@ -16,74 +14,10 @@ use records::BLOCK_LENGTH;
 use records::ENCAPSULATION_LENGTH;
 use records::FIRST;
 use records::PUBLIC_KEY_LENGTH;
-use records::PUBLIC_KEY_MARK;
-use records::SEALED_ENTRY_LENGTH;
-use records::SEALED_ENTRY_MARK;
 use records::SECOND;
 use records::SECRET_KEY_LENGTH;
-use records::SECRET_KEY_MARK;
 use records::TRIPLE_LENGTH;
 use sampling::NOISE_LENGTH;
-use sampling::STREAM_LENGTH;
-
-// ---- elements and records
-
-// The polynomial c X^k, for k below 1,024, and else 0.
-fn term(c: u16, k: usize) -> Element
-    ensures { λ r. ⌜ r ≡ term c k ⌝ }
-{
-    let mut a = [0u16; DEGREE];
-    if k < DEGREE {
-        a[k] = c;
-    }
-    a
-}
-
-fn constant(c: u16) -> Element
-    ensures { λ r. ⌜ r ≡ constant c ⌝ }
-{
-    term(c, 0)
-}
-
-// The secret key of the constants a and b, and s = 0.
-fn secret_key(a: u16, b: u16) -> [u8; SECRET_KEY_LENGTH]
-    ensures { λ r. ⌜ r ≡ secretKey a b ⌝ }
-{
-    let mut key = [0u8; SECRET_KEY_LENGTH];
-    records::write_record(SECRET_KEY_MARK, 1, constant(a), constant(b), &mut key);
-    key
-}
-
-fn public_key(a: u16, b: u16) -> [u8; PUBLIC_KEY_LENGTH]
-    ensures { λ r. ⌜ r ≡ publicKey a b ⌝ }
-{
-    let mut key = [0u8; PUBLIC_KEY_LENGTH];
-    records::write_record(PUBLIC_KEY_MARK, 1, constant(a), constant(b), &mut key);
-    key
-}
-
-fn encapsulation(c1: u16, c2: u16) -> [u8; ENCAPSULATION_LENGTH]
-    ensures { λ r. ⌜ r ≡ encapsulation c1 c2 ⌝ }
-{
-    let mut c = [0u8; ENCAPSULATION_LENGTH];
-    sealed_records::write_encapsulation(constant(c1), constant(c2), &mut c);
-    c
-}
-
-// A sealed entry whose body and tag are zeros.
-fn sealed_entry(c1: u16, c2: u16) -> [u8; SEALED_ENTRY_LENGTH]
-    ensures { λ r. ⌜ r ≡ sealedEntry c1 c2 ⌝ }
-{
-    let mut sealed = [0u8; SEALED_ENTRY_LENGTH];
-    records::write_record(
-        SEALED_ENTRY_MARK,
-        1,
-        constant(c1),
-        constant(c2),
-        &mut sealed,
-    );
-    sealed
-}
 
 // ---- what is printed
 
@@ -159,15 +93,15 @@ fn print_inverse(name: &[u8], a: Element) {
 }
 
 fn print_units() {
-    print_inverse(b"1", constant(1));
-    print_inverse(b"0", constant(0));
-    print_inverse(b"X", term(1, 1));
+    print_inverse(b"1", example_records::constant(1));
+    print_inverse(b"0", example_records::constant(0));
+    print_inverse(b"X", example_records::term(1, 1));
 }
 
 // ---- keys
 
 fn print_key_check(name: &[u8], a: u16, b: u16) {
-    let key = secret_key(a, b);
+    let key = example_records::secret_key(a, b);
     print_answered(name, key_calls::check_secret_key(&key));
 }
 
@@ -194,8 +128,8 @@ fn print_triple(triple: &[u8])
 }
 
 fn print_opening(c1: u16, c2: u16, dummy: &[u8]) {
-    let key = secret_key(0, 5);
-    let c = encapsulation(c1, c2);
+    let key = example_records::secret_key(0, 5);
+    let c = example_records::encapsulation(c1, c2);
     let mut triple = [0u8; TRIPLE_LENGTH];
     let answer = opening::decapsulate(&key, &c, dummy, &mut triple);
     print_answer(answer);
@@ -224,19 +158,6 @@ fn print_openings() {
 
 // ---- streams
 
-// A stream whose first words are of the bytes low and high, and the others zero.
-fn stream(words: usize, low: u8, high: u8) -> [u8; STREAM_LENGTH]
-    requires { ⌜ words ≤ 1344 ⌝ }
-    ensures { λ r. ⌜ r ≡ stream words low high ⌝ }
-{
-    let mut s = [0u8; STREAM_LENGTH];
-    for k in 0..words {
-        s[2 * k] = low;
-        s[2 * k + 1] = high;
-    }
-    s
-}
-
 // Key making from the stream with s = 0 and e = 1, and the a that it takes from the stream.
 fn print_keygen(name: &[u8], stream: &[u8]) {
     let s = [0u8; NOISE_LENGTH];
@@ -256,16 +177,28 @@ fn print_keygen(name: &[u8], stream: &[u8]) {
 
 // The words 59,392 and 59,393 are the bytes 0, 232 and 1, 232.
 fn print_streams() {
-    print_keygen(b"stream with word 59392 first: ", &stream(1, 0, 232));
-    print_keygen(b"stream with word 59393 first: ", &stream(1, 1, 232));
-    print_keygen(b"stream with 320 words passed over: ", &stream(320, 1, 232));
-    print_keygen(b"stream with 321 words passed over: ", &stream(321, 1, 232));
+    print_keygen(
+        b"stream with word 59392 first: ",
+        &example_records::stream(1, 0, 232),
+    );
+    print_keygen(
+        b"stream with word 59393 first: ",
+        &example_records::stream(1, 1, 232),
+    );
+    print_keygen(
+        b"stream with 320 words passed over: ",
+        &example_records::stream(320, 1, 232),
+    );
+    print_keygen(
+        b"stream with 321 words passed over: ",
+        &example_records::stream(321, 1, 232),
+    );
 }
 
 // ---- word 59,393 in a record
 
 fn print_public_key_word() {
-    let key = public_key(59393, 5);
+    let key = example_records::public_key(59393, 5);
     let mut out = [0u8; ENCAPSULATION_LENGTH];
     let answer = sealing::encapsulate(&key, &[0u8; TRIPLE_LENGTH], &mut out);
     print_answered(b"word 59393 in a public key: ", answer);
@@ -277,8 +210,8 @@ fn print_encapsulation_word() {
 }
 
 fn print_sealed_entry_word() {
-    let key = secret_key(0, 5);
-    let sealed = sealed_entry(59393, 0);
+    let key = example_records::secret_key(0, 5);
+    let sealed = example_records::sealed_entry(59393, 0);
     let mut out = [0u8; BLOCK_LENGTH];
     let answer = opening::open(&key, &sealed, &[0u8; TRIPLE_NOISE_LENGTH], &mut out);
     print_answered(b"word 59393 in a sealed entry: ", answer);

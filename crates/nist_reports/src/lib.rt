@@ -1,0 +1,146 @@
+// What is reported of a response file of SHAKE256.
+ghost use mathlib.Core.Path.{_≡_};
+ghost use Rattle.nist_reports.specs.Reports.{afterCase, nextChain, reportOn, noChain, firstChain, isMonte, reportPlain, reportMonte, reportOf};
+use monte_chain::Chain;
+use nist_cases::Kind;
+use nist_cases::Verdict;
+use vectors::Report;
+
+// What stands behind the lines of a case.
+fn after_case(kind: Kind, text: &[u8]) -> &[u8]
+    ensures { λ r. ⌜ now r ≡ afterCase kind (now (text .entry)) ⌝ }
+{
+    let second = response_files::after_line(text);
+    let third = response_files::after_line(second);
+    let rest = response_files::after_line(third);
+    match kind {
+        Kind::Length => rest,
+        Kind::Output => response_files::after_line(rest),
+        Kind::Monte => rest,
+    }
+}
+
+// The chain of the next case; only the Monte file has one.
+fn next_chain(kind: Kind, c: Chain) -> Chain
+    ensures { λ r. ⌜ r ≡ nextChain kind c ⌝ }
+{
+    match kind {
+        Kind::Length => c,
+        Kind::Output => c,
+        Kind::Monte => monte_chain::many_turns(c, 1000),
+    }
+}
+
+// Judges the cases of a body. Lines are counted in the whole text.
+fn judge_cases(kind: Kind, text: &[u8], body: &[u8], number: usize, c: Chain) -> Report
+    ensures { λ r. ⌜ r ≡ reportOn kind number c (now (text .entry)) (now (body .entry)) ⌝ }
+{
+    let mut rest = body;
+    let mut c = c;
+    let mut agreed = 0;
+    let mut differed = 0;
+    while rest.len() > 0 {
+        if response_files::is_blank(rest) {
+            let next = response_files::after_line(rest);
+            rest = next;
+        } else {
+            match nist_cases::judge_case(kind, rest, number, agreed + differed, c) {
+                Verdict::Agreed => {
+                    agreed += 1;
+                }
+                Verdict::Differed => {
+                    differed += 1;
+                }
+                Verdict::Malformed(left) => {
+                    return Report::MalformedLine(response_files::line_number(text, left));
+                }
+            }
+            let chain = next_chain(kind, c);
+            c = chain;
+            let next = after_case(kind, rest);
+            rest = next;
+        }
+    }
+    if agreed + differed == 0 {
+        return Report::MalformedLine(response_files::line_number(text, 0));
+    }
+    Report::Counts(agreed as u64, differed as u64)
+}
+
+fn no_chain() -> Chain
+    ensures { λ r. ⌜ r ≡ noChain ⌝ }
+{
+    Chain {
+        message: [0; 16],
+        extra: 0,
+    }
+}
+
+// A file whose named header gives the length of all outputs or of all messages.
+fn judge_plain(kind: Kind, text: &[u8], name: &[u8]) -> Report
+    ensures { λ r. ⌜ r ≡ reportPlain kind (now (name .entry)) (now (text .entry)) ⌝ }
+{
+    let body = response_files::body(text);
+    let number = response_files::header_number(text, name);
+    if number == 0 {
+        return Report::MalformedLine(response_files::line_number(text, body.len()));
+    }
+    judge_cases(kind, text, body, number, no_chain())
+}
+
+// Whether the headers of the Monte file give the lengths 2 and 250, and a message of 16 bytes follows them.
+fn is_monte(text: &[u8], body: &[u8]) -> bool
+    ensures { λ r. ⌜ r ≡ isMonte (now (text .entry)) (now (body .entry)) ⌝ }
+{
+    if response_files::header_number(text, b"[Minimum Output Length (bits) = ") != 2 {
+        return false;
+    }
+    if response_files::header_number(text, b"[Maximum Output Length (bits) = ") != 250 {
+        return false;
+    }
+    let mut message = [0u8; 16];
+    response_files::read_hex(response_files::value(body, b"Msg = "), 16, &mut message)
+}
+
+// The chain before the last turn of the first case.
+fn first_chain(digits: &[u8]) -> Chain
+    ensures { λ r. ⌜ r ≡ firstChain (now (digits .entry)) ⌝ }
+{
+    let mut message = [0u8; 16];
+    hex::decode(digits, &mut message);
+    monte_chain::many_turns(
+        Chain {
+            message,
+            extra: 248,
+        },
+        999,
+    )
+}
+
+// The Monte file: the line `Msg = ` after the headers starts the chain.
+fn judge_monte(text: &[u8]) -> Report
+    ensures { λ r. ⌜ r ≡ reportMonte (now (text .entry)) ⌝ }
+{
+    let body = response_files::body(text);
+    if !is_monte(text, body) {
+        return Report::MalformedLine(response_files::line_number(text, body.len()));
+    }
+    let chain = first_chain(response_files::value(body, b"Msg = "));
+    judge_cases(
+        Kind::Monte,
+        text,
+        response_files::after_line(body),
+        0,
+        chain,
+    )
+}
+
+pub fn judge_file(kind: Kind, text: &[u8]) -> Report
+    ensures { λ r. ⌜ r ≡ reportOf kind (now (text .entry)) ⌝ }
+{
+    match kind {
+        Kind::Length => judge_plain(Kind::Length, text, b"[Outputlen = "),
+        Kind::Output => judge_plain(Kind::Output, text, b"[Input Length = "),
+        Kind::Monte => judge_monte(text),
+    }
+}
