@@ -1,7 +1,7 @@
 // Keys, keystream, body and tag of a triple of ternary polynomials: document 01, "Bytes".
 // Nothing here branches on a secret or indexes by one: the one branch on derived bytes asks whether a whole tag is right.
 use ntt::Element;
-use records::BLOCK_LENGTH;
+use octets::BLOCK_LENGTH;
 use records::TRIPLE_LENGTH;
 ghost use mathlib.Core.Path.{_≡_};
 ghost use mathlib.Core.List.{_∷_};

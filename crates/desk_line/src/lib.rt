@@ -1,7 +1,7 @@
 // What the desk program prints, from what it read.
 use answers::Answer;
 use keys::TRIPLE_NOISE_LENGTH;
-use records::BLOCK_LENGTH;
+use octets::BLOCK_LENGTH;
 use records::SEALED_ENTRY_LENGTH;
 use records::SECRET_KEY_LENGTH;
 ghost use mathlib.Core.Path.{_≡_};

@@ -2,29 +2,17 @@
 // wrong with the file.
 ghost use mathlib.Core.Path.{_≡_};
 ghost use mathlib.Core.Bool.{true};
-ghost use lib.ListN.{length};
 ghost use Rattle.vectors.specs.Answers.{report};
 ghost use Rattle.gf128_vectors.specs.Cases.{case?, agrees?, verdict};
 use vectors::Report;
 use vectors::Verdict;
 
-fn block(bytes: &[u8]) -> [u8; 16]
-    requires { ⌜ length (now bytes) ≡ 16 ⌝ }
-    ensures { λ r. ⌜ r ≡ now (bytes .entry) ⌝ }
-{
-    let mut r = [0u8; 16];
-    for k in 0..16 {
-        r[k] = bytes[k];
-    }
-    r
-}
-
 fn agrees(text: &[u8]) -> bool
     requires { ⌜ case? (now text) ≡ true ⌝ }
     ensures { λ r. ⌜ r ≡ agrees? (now (text .entry)) ⌝ }
 {
-    let x = block(vectors::field(text, 0));
-    let y = block(vectors::field(text, 1));
+    let x = octets::read_block(vectors::field(text, 0));
+    let y = octets::read_block(vectors::field(text, 1));
     let found = gf128::product(x, y);
     (vectors::number(text, 2) == 0) & vectors::same(&found, vectors::field(text, 4))
 }

@@ -1,8 +1,11 @@
-// Bytes as words, and how much of what is lent is read: what several crates need and the kit has no function for.
+// Bytes as words and blocks, and how much of what is lent is read: what several crates need and the kit has no function for.
 ghost use mathlib.Core.Path.{_≡_};
 ghost use Prim.Native.Nat.{_+_, _≤_, min};
 ghost use lib.ListN.{length, getD};
 ghost use Rattle.octets.specs.Words.{join8, wordAt};
+
+// An entry, a body, a tag, an element of the tag's field.
+pub const BLOCK_LENGTH: usize = 16;
 
 // The lesser of two lengths.
 pub fn lesser(a: usize, b: usize) -> usize
@@ -47,4 +50,26 @@ pub fn word_at(b: &[u8], at: usize) -> u64
         b[at + 6],
         b[at + 7],
     )
+}
+
+// ---- blocks of 16 bytes: entries, bodies and tags
+
+pub fn read_block(bytes: &[u8]) -> [u8; BLOCK_LENGTH]
+    requires { ⌜ length (now bytes) ≡ 16 ⌝ }
+    ensures { λ b. ⌜ b ≡ now (bytes .entry) ⌝ }
+{
+    let mut b = [0u8; BLOCK_LENGTH];
+    for i in 0..BLOCK_LENGTH {
+        b[i] = bytes[i];
+    }
+    b
+}
+
+pub fn write_block(b: [u8; BLOCK_LENGTH], out: &mut [u8])
+    requires { ⌜ length (now out) ≡ 16 ⌝ }
+    ensures { λ _. ⌜ now (out .exit) ≡ b ⌝ }
+{
+    for i in 0..BLOCK_LENGTH {
+        out[i] = b[i];
+    }
 }

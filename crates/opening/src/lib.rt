@@ -3,7 +3,7 @@ use answers::Answer;
 use answers::Refusal;
 use keys::TRIPLE_NOISE_LENGTH;
 use ntt::FACTORS;
-use records::BLOCK_LENGTH;
+use octets::BLOCK_LENGTH;
 use records::ENCAPSULATION_LENGTH;
 use records::SEALED_ENTRY_LENGTH;
 use records::SECRET_KEY_LENGTH;
@@ -100,7 +100,7 @@ fn write_entry(answer: Answer, entry: [u8; BLOCK_LENGTH], out: &mut [u8])
     ensures { λ _. ⌜ now (out .exit) ≡ onDone answer entry (now (out .entry)) ⌝ }
 {
     if let Answer::Done = answer {
-        sealed_records::write_block(entry, out);
+        octets::write_block(entry, out);
     }
 }
 

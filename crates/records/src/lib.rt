@@ -9,6 +9,7 @@ use encoding::MARK_LENGTH;
 use encoding::TERNARY_LENGTH;
 use ntt::DEGREE;
 use ntt::Element;
+use octets::BLOCK_LENGTH;
 ghost use mathlib.Core.Path.{_≡_};
 ghost use mathlib.Core.List.{_++_};
 ghost use Prim.Native.Nat.{_≤_};
@@ -26,9 +27,6 @@ pub const PUBLIC_KEY_MARK: [u8; MARK_LENGTH] = [80, 68, 75];
 pub const SECRET_KEY_MARK: [u8; MARK_LENGTH] = [83, 68, 75];
 
 pub const SEALED_ENTRY_MARK: [u8; MARK_LENGTH] = [80, 76, 71];
-
-// An entry, a body, a tag.
-pub const BLOCK_LENGTH: usize = 16;
 
 // Where the parts of a public key, a secret key and a sealed entry start: a or c1, b or c2, and s or the body.
 pub const FIRST: usize = HEADER_LENGTH;

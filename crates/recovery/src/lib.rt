@@ -4,7 +4,7 @@ use answers::Answer;
 use answers::Refusal;
 use keys::SecretKey;
 use ntt::Spectrum;
-use records::BLOCK_LENGTH;
+use octets::BLOCK_LENGTH;
 use records::Elements;
 use scheme::Encapsulation;
 use scheme::Triple;

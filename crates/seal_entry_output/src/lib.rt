@@ -2,7 +2,7 @@
 use answers::Answer;
 use answers::Refusal;
 use keys::TRIPLE_NOISE_LENGTH;
-use records::BLOCK_LENGTH;
+use octets::BLOCK_LENGTH;
 use records::PUBLIC_KEY_LENGTH;
 use records::SEALED_ENTRY_LENGTH;
 ghost use mathlib.Core.Path.{_≡_};

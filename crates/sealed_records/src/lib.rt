@@ -1,9 +1,9 @@
-// What is sealed to a key, as bytes: sealed entries and encapsulations, read and written, and their blocks.
+// What is sealed to a key, as bytes: sealed entries and encapsulations, read and written.
 // The calls test every length first, so the functions here are lent buffers of the record's length.
 use answers::Answer;
 use encoding::ELEMENT_LENGTH;
 use ntt::Element;
-use records::BLOCK_LENGTH;
+use octets::BLOCK_LENGTH;
 use records::ENCAPSULATION_LENGTH;
 use records::Elements;
 use records::Places;
@@ -15,30 +15,8 @@ ghost use mathlib.Core.Path.{_≡_};
 ghost use lib.ListN.{length};
 ghost use Rattle.encoding.specs.Words.{firstUnreduced};
 ghost use Rattle.answers.specs.declared.Answer.the-variants.{Done};
-ghost use Rattle.records.specs.Layout.{sealedEntryMark, sealedEntryLength, encapsulationLength, blockLength};
+ghost use Rattle.records.specs.Layout.{sealedEntryMark, sealedEntryLength, encapsulationLength};
 ghost use Rattle.records.specs.Records.{headerAnswer, firstOf, secondOf, bodyPart, tagPart, sealedEntryBytes, c1Of, c2Of, encapsulationBytes};
-
-// ---- blocks of 16 bytes: entries, bodies and tags
-
-pub fn read_block(bytes: &[u8]) -> [u8; BLOCK_LENGTH]
-    requires { ⌜ length (now bytes) ≡ blockLength ⌝ }
-    ensures { λ b. ⌜ b ≡ now (bytes .entry) ⌝ }
-{
-    let mut b = [0u8; BLOCK_LENGTH];
-    for i in 0..BLOCK_LENGTH {
-        b[i] = bytes[i];
-    }
-    b
-}
-
-pub fn write_block(b: [u8; BLOCK_LENGTH], out: &mut [u8])
-    requires { ⌜ length (now out) ≡ blockLength ⌝ }
-    ensures { λ _. ⌜ now (out .exit) ≡ b ⌝ }
-{
-    for i in 0..BLOCK_LENGTH {
-        out[i] = b[i];
-    }
-}
 
 // ---- sealed entries
 
@@ -58,8 +36,8 @@ pub fn read_sealed_entry(bytes: &[u8]) -> SealedEntry
 {
     SealedEntry {
         front: records::read_record(bytes, SEALED_ENTRY_MARK, 1),
-        body: read_block(&bytes[THIRD..TAG]),
-        tag: read_block(&bytes[TAG..SEALED_ENTRY_LENGTH]),
+        body: octets::read_block(&bytes[THIRD..TAG]),
+        tag: octets::read_block(&bytes[TAG..SEALED_ENTRY_LENGTH]),
     }
 }
 
@@ -74,8 +52,8 @@ pub fn write_sealed_entry(
     ensures { λ _. ⌜ now (out .exit) ≡ sealedEntryBytes c1 c2 body tag ⌝ }
 {
     records::write_record(SEALED_ENTRY_MARK, 1, c1, c2, out);
-    write_block(body, &mut out[THIRD..TAG]);
-    write_block(tag, &mut out[TAG..SEALED_ENTRY_LENGTH]);
+    octets::write_block(body, &mut out[THIRD..TAG]);
+    octets::write_block(tag, &mut out[TAG..SEALED_ENTRY_LENGTH]);
 }
 
 // ---- encapsulations

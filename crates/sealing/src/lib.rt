@@ -5,7 +5,7 @@ use keys::PublicKey;
 use keys::TRIPLE_NOISE_LENGTH;
 use ntt::Element;
 use ntt::FACTORS;
-use records::BLOCK_LENGTH;
+use octets::BLOCK_LENGTH;
 use records::ENCAPSULATION_LENGTH;
 use records::PUBLIC_KEY_LENGTH;
 use records::SEALED_ENTRY_LENGTH;
@@ -157,7 +157,7 @@ fn seal_records(key: &[u8], noise: &[u8], entry: &[u8]) -> Sealed
     ntt::backward_factors(&mut backward);
     let k = keys::read_public_key(key, &forward);
     let t = keys::noise_triple(noise);
-    let block = sealed_records::read_block(entry);
+    let block = octets::read_block(entry);
     seal_with(k, t, block, &forward, &backward)
 }
 

@@ -8,18 +8,6 @@ ghost use Rattle.vectors.specs.Answers.{same?, verdictOf, Within, bytesR
 
 // ---- fields
 
-fn lesser(a: usize, b: usize) -> usize
-    ensures { λ r. ⌜ r ≡ min a b ⌝ }
-{
-    if a < b { a } else { b }
-}
-
-fn byte(text: &[u8], i: usize) -> u8
-    ensures { λ r. ⌜ r ≡ getD (now (text .entry)) i 0 ⌝ }
-{
-    if i < text.len() { text[i] } else { 0 }
-}
-
 fn join4(b0: u8, b1: u8, b2: u8, b3: u8) -> u32
     ensures { λ r. ⌜ r ≡ b0 + 256 * b1 + 65536 * b2 + 16777216 * b3 ⌝ }
 {
@@ -30,7 +18,12 @@ fn join4(b0: u8, b1: u8, b2: u8, b3: u8) -> u32
 fn word(text: &[u8]) -> u32
     ensures { λ r. ⌜ r ≡ word32 (now (text .entry)) ⌝ }
 {
-    join4(byte(text, 0), byte(text, 1), byte(text, 2), byte(text, 3))
+    join4(
+        octets::byte_at(text, 0),
+        octets::byte_at(text, 1),
+        octets::byte_at(text, 2),
+        octets::byte_at(text, 3),
+    )
 }
 
 // Where the field that starts at a place ends, by its length.
@@ -47,7 +40,7 @@ fn start(text: &[u8], i: usize) -> usize
 {
     let mut at = 0;
     for k in 0..i {
-        at = lesser(end_from(text, at), text.len());
+        at = octets::lesser(end_from(text, at), text.len());
     }
     at
 }
@@ -57,8 +50,8 @@ pub fn field(text: &[u8], i: usize) -> &[u8]
     ensures { λ r. ⌜ now r ≡ field i (now (text .entry)) ⌝ }
 {
     let at = start(text, i);
-    let first = lesser(at + 4, text.len());
-    let end = lesser(end_from(text, at), text.len());
+    let first = octets::lesser(at + 4, text.len());
+    let end = octets::lesser(end_from(text, at), text.len());
     &text[first..end]
 }
 
@@ -249,7 +242,7 @@ pub fn read_bytes(read: Contents, buffer: &[u8]) -> &[u8]
     ensures { λ r. ⌜ now r ≡ bytesRead read (now (buffer .entry)) ⌝ }
 {
     match read {
-        Contents::Bytes(n) => &buffer[..lesser(n, buffer.len())],
+        Contents::Bytes(n) => &buffer[..octets::lesser(n, buffer.len())],
         Contents::TooLong => &buffer[..0],
         Contents::Missing => &buffer[..0],
     }

@@ -10,7 +10,7 @@ use libc::STDOUT_FILENO;
 use modq::Q;
 use ntt::DEGREE;
 use ntt::Element;
-use records::BLOCK_LENGTH;
+use octets::BLOCK_LENGTH;
 use records::ENCAPSULATION_LENGTH;
 use records::FIRST;
 use records::PUBLIC_KEY_LENGTH;

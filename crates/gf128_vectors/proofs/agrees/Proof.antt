@@ -14,14 +14,14 @@ use Rattle.gf128_vectors.proofs.agrees.Tie as tie
 field-requires : tie.Need-field-requires
 field-requires c κs = search needs
 
-block-requires : tie.Need-block-requires
-block-requires c κs = ap length (c .field .ensures) ∙ sized-field _ _ 0 (c .before .before .pre) (omega arith)
+read-block-requires : tie.Need-read-block-requires
+read-block-requires c κs = ap length (c .field .ensures) ∙ sized-field _ _ 0 (c .before .before .pre) (omega arith)
 
 field-requires-2 : tie.Need-field-requires-2
 field-requires-2 c κs = search needs
 
-block-requires-2 : tie.Need-block-requires-2
-block-requires-2 c κs = ap length (c .field2 .ensures) ∙ sized-field _ _ 1 (c .before .before .before .before .pre) (omega arith)
+read-block-requires-2 : tie.Need-read-block-requires-2
+read-block-requires-2 c κs = ap length (c .field2 .ensures) ∙ sized-field _ _ 1 (c .before .before .before .before .pre) (omega arith)
 
 product-requires : tie.Need-product-requires
 product-requires c κs = search needs
@@ -46,7 +46,7 @@ returns c =
     let first = second .before .before in
     let found =
     multiplied .product .ensures
-    ∙ ap₂ product (first .block .ensures ∙ first .before .field .ensures) (second .block2 .ensures ∙ second .before .field2 .ensures) in
+    ∙ ap₂ product (first .read-block .ensures ∙ first .before .field .ensures) (second .read-block2 .ensures ∙ second .before .field2 .ensures) in
     ap₂ _&&_ (ap (λ (k : ℕ). eqb k 0) (told .number .ensures)) (c .same .ensures ∙ ap₂ same? found (c .before .field3 .ensures))
 
 pub agrees-spec : {M : Type 1} → statement M
@@ -54,9 +54,9 @@ agrees-spec =
     tie.close
     (tie.spec
     field-requires
-    block-requires
+    read-block-requires
     field-requires-2
-    block-requires-2
+    read-block-requires-2
     product-requires
     number-requires
     slice-aggregate-same
