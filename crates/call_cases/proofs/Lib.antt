@@ -1,0 +1,2 @@
+-- Laws of calls.
+mod Calls

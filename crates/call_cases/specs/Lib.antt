@@ -1,0 +1,2 @@
+-- What the contracts of `call_cases` cite.
+pub mod CallCases

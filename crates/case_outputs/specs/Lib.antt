@@ -1,0 +1,2 @@
+-- What the contracts of `case_outputs` cite.
+pub mod Outputs

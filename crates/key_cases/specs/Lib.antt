@@ -1,0 +1,2 @@
+-- What the contracts of `key_cases` cite.
+pub mod KeyCases

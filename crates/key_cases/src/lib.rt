@@ -1,0 +1,57 @@
+// When a case of key making, or of a key's check, agrees.
+ghost use mathlib.Core.Path.{_≡_};
+ghost use Rattle.case_outputs.specs.Outputs.{filled, output};
+ghost use Rattle.key_cases.specs.KeyCases.{checkAgrees?, keysAgree?, publicAfter, secretAfter, keygenAgrees?};
+use answers::Answer;
+use case_outputs::FILLER;
+
+// ---- check_secret_key
+
+pub fn check_agrees(text: &[u8]) -> bool
+    ensures { λ r. ⌜ r ≡ checkAgrees? (now (text .entry)) ⌝ }
+{
+    let answer = key_calls::check_secret_key(vectors::field(text, 0));
+    answers::number(answer) == vectors::number(text, 1)
+}
+
+// ---- keygen
+
+// Whether both keys are what a case tells.
+fn keys_agree(text: &[u8], answer: Answer, public: &[u8], secret: &[u8]) -> bool
+    ensures { λ r. ⌜ r ≡ keysAgree? (now (text .entry)) answer (now (public .entry)) (now (secret .entry)) ⌝ }
+{
+    let told = vectors::number(text, 5);
+    case_outputs::answer_agrees(answer, told, vectors::field(text, 7), public)
+        & case_outputs::answer_agrees(answer, told, vectors::field(text, 8), secret)
+}
+
+fn keygen_agrees(text: &[u8], public: &mut [u8], secret: &mut [u8]) -> bool
+    ensures { λ r. ⌜ r ≡ keygenAgrees? (now (text .entry)) (filled (now (public .entry))) (filled (now (secret .entry))) ⌝ }
+    ensures { λ _. ⌜ now (public .exit) ≡ publicAfter (now (text .entry)) (filled (now (public .entry))) (filled (now (secret .entry))) ⌝ }
+    ensures { λ _. ⌜ now (secret .exit) ≡ secretAfter (now (text .entry)) (filled (now (public .entry))) (filled (now (secret .entry))) ⌝ }
+{
+    vectors::fill(public, FILLER);
+    vectors::fill(secret, FILLER);
+    let answer = key_calls::keygen(
+        vectors::field(text, 0),
+        vectors::field(text, 1),
+        vectors::field(text, 2),
+        public,
+        secret,
+    );
+    keys_agree(text, answer, public, secret)
+}
+
+pub fn keygen_case_agrees(text: &[u8]) -> bool
+    ensures { λ r. ⌜ r ≡ keygenAgrees? (now (text .entry)) (output 3 (now (text .entry))) (output 4 (now (text .entry))) ⌝ }
+{
+    let mut public = case_outputs::output_buffer();
+    let mut secret = case_outputs::output_buffer();
+    let public_size = case_outputs::room(text, 3);
+    let secret_size = case_outputs::room(text, 4);
+    keygen_agrees(
+        text,
+        &mut public[0..public_size],
+        &mut secret[0..secret_size],
+    )
+}
