@@ -1,0 +1,2 @@
+-- What the contracts of `remainder_cases` cite.
+pub mod Remainders

@@ -1,9 +1,0 @@
-use Rattle.ring_vectors.proofs.Words.{compared}
-use Rattle.ring_vectors.proofs.same_integers.Statement.{statement}
-use Rattle.ring_vectors.proofs.same_integers.Tie as tie
-
-returns : tie.Need-returns
-returns c = compared _ _ (c .fits .a) (c .fits .b)
-
-pub same-integers-spec : {M : Type 1} → statement M
-same-integers-spec = tie.close (tie.spec returns)
