@@ -4,11 +4,9 @@ use desk_line::INPUT_LENGTH;
 use libc::STDIN_FILENO;
 use libc::STDOUT_FILENO;
 ghost use mathlib.Core.Path.{_≡_};
-ghost use Prim.Native.Nat.{_+_, _≤_};
-ghost use lib.ListN.{length, take};
+ghost use Prim.Native.Nat.{_+_};
 ghost use Rattle.lists.specs.Table.{zeros};
-ghost use Rattle.text.specs.Text.{written};
-ghost use Rattle.desk_line.specs.Line.{inputLength, deskLine};
+ghost use Rattle.desk_line.specs.Line.{inputLength};
 
 // One byte more than the input has, so that longer input is told from input that fits, and an endless one ends.
 fn input_buffer() -> [u8; INPUT_LENGTH + 1]
@@ -17,19 +15,10 @@ fn input_buffer() -> [u8; INPUT_LENGTH + 1]
     [0; INPUT_LENGTH + 1]
 }
 
-// The line for the first n bytes of a buffer, which are what was read.
-fn line_of(buffer: &[u8], n: usize) -> desk_line::Text
-    requires { ⌜ n ≤ length (now buffer) ⌝ }
-    ensures { λ r. ⌜ r .bytes ≡ written (deskLine (take n (now (buffer .entry)))) (zeros 35) ⌝ }
-    ensures { λ r. ⌜ (r .length ≡ length (deskLine (take n (now (buffer .entry))))) × (r .length ≤ 35) ⌝ }
-{
-    desk_line::line(&buffer[0..n])
-}
-
 fn main() {
     let mut input = input_buffer();
     let n = io::read_full(STDIN_FILENO, &mut input);
-    let line = line_of(&input, n);
+    let line = desk_line::line_of_first(&input, n);
     let bytes = line.bytes;
     let length = line.length;
     io::write_all(STDOUT_FILENO, &bytes[0..length]);

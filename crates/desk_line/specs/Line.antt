@@ -1,19 +1,17 @@
 -- The line of the desk program (document 01, "The desk program"), as ASCII bytes.
-use mathlib.Core.List.{List, [], _∷_, _++_}
+use mathlib.Core.List.{List}
 use Prim.Native.Nat.{ℕ}
 use lib.Dec.{eqb}
 use lib.ListN.{length}
 use Rattle.lists.specs.Table.{zeros}
-use Rattle.hex.specs.Hex.{textOf}
-use Rattle.text.specs.Text.{decimal}
 use Rattle.answers.specs.declared.Refusal.the-variants.{WrongLength}
 use Rattle.answers.specs.declared.Answer.{Answer}
-use Rattle.answers.specs.declared.Answer.the-variants.{Done, Refused}
 use Rattle.answers.specs.Answers.{number, unless}
 use Rattle.records.specs.Layout.{secretKeyLength, sealedEntryLength, blockLength}
 use Rattle.records.specs.Records.{part}
 use Rattle.keys.specs.Keys.{tripleNoiseLength}
 use Rattle.calls.specs.Calls.{openAnswer, openOut}
+use Rattle.answer_line.specs.Line.{shown, lineOf}
 
 -- ---- the input: secret key, sealed entry, dummy noise
 
@@ -38,15 +36,6 @@ unfoldable pub deskEntry : List ℕ → List ℕ
 deskEntry input = openOut (keyPart input) (sealedPart input) (dummyPart input) (zeros blockLength)
 
 -- ---- the line
-
--- the entry in hexadecimal, or "-"
-abbrev pub shown : Answer → List ℕ → List ℕ
-shown Done entry = textOf entry
-shown (Refused r) entry = 45 ∷ []
-
--- the number, a space, a text and a line feed
-abbrev pub lineOf : (n : ℕ) (text : List ℕ) → List ℕ
-lineOf n text = decimal n ++ (32 ∷ []) ++ text ++ (10 ∷ [])
 
 unfoldable pub deskLine : List ℕ → List ℕ
 deskLine input = lineOf (number (deskAnswer input)) (shown (deskAnswer input) (deskEntry input))

@@ -14,11 +14,11 @@ slice-aggregate-read-full c = search needs
 read-full-requires : tie.Need-read-full-requires
 read-full-requires c κs = search needs
 
-slice-aggregate-line-of : tie.Need-slice-aggregate-line-of
-slice-aggregate-line-of c = search needs
+slice-aggregate-line-of-first : tie.Need-slice-aggregate-line-of-first
+slice-aggregate-line-of-first c = search needs
 
-line-of-requires : tie.Need-line-of-requires
-line-of-requires c κs = search needs
+line-of-first-requires : tie.Need-line-of-first-requires
+line-of-first-requires c κs = search needs
 
 sub-write-all : tie.Need-sub-write-all
 sub-write-all c = search needs
@@ -28,7 +28,7 @@ part-write-all-start c = search needs
 
 part-write-all-end : tie.Need-part-write-all-end
 part-write-all-end c =
-    let line = c .before .before .line-of in
+    let line = c .before .before .line-of-first in
     let size : length (line .result .bytes) ≡ 35 = search needs in
     omega (arith, size, line .ensures .1 .1)
 
@@ -45,8 +45,8 @@ main-spec =
     input-buffer-requires
     slice-aggregate-read-full
     read-full-requires
-    slice-aggregate-line-of
-    line-of-requires
+    slice-aggregate-line-of-first
+    line-of-first-requires
     sub-write-all
     part-write-all-start
     part-write-all-end

@@ -1,5 +1,6 @@
 use denote.Ref.{now}
-use Rattle.desk_line.proofs.Lines.{line-by-answer, other-length-line, holds}
+use Rattle.desk_line.proofs.Lines.{line-by-answer, other-length-line}
+use Rattle.answer_line.proofs.Lines.{holds}
 use borrow.Author.Needs.{needs}
 use Rattle.desk_line.proofs.line.Statement.{statement}
 use Rattle.desk_line.proofs.line.Tie as tie
@@ -15,15 +16,15 @@ returns c =
 open-input-requires : tie.Need-open-input-requires
 open-input-requires c κs = search needs
 
-answer-line-requires : tie.Need-answer-line-requires
-answer-line-requires c κs = search needs
+line-requires : tie.Need-line-requires
+line-requires c κs = search needs
 
 returns-2 : tie.Need-returns-2
 returns-2 c =
     let opened = c .before .before in
-    holds (line-by-answer (now (opened .before .before .before .args .input)) (opened .open-input .ensures .0) (opened .open-input .ensures .1)) (c .answer-line .ensures)
+    holds (line-by-answer (now (opened .before .before .before .args .input)) (opened .open-input .ensures .0) (opened .open-input .ensures .1)) (c .line .ensures)
 
 pub line-spec : {M : Type 1} → statement M
 line-spec =
     tie.close
-    (tie.spec refusal-line-requires returns open-input-requires answer-line-requires returns-2)
+    (tie.spec refusal-line-requires returns open-input-requires line-requires returns-2)

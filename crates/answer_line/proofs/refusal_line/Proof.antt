@@ -1,10 +1,10 @@
 use mathlib.Core.Path.{refl}
 use mathlib.Core.List.{[], _∷_}
-use Rattle.desk_line.specs.Line.{lineOf}
-use Rattle.desk_line.proofs.Lines.{refusal-fits, fits}
+use Rattle.answer_line.specs.Line.{lineOf}
+use Rattle.answer_line.proofs.Lines.{refusal-fits, fits}
 use borrow.Author.Needs.{needs}
-use Rattle.desk_line.proofs.refusal_line.Statement.{statement}
-use Rattle.desk_line.proofs.refusal_line.Tie as tie
+use Rattle.answer_line.proofs.refusal_line.Statement.{statement}
+use Rattle.answer_line.proofs.refusal_line.Tie as tie
 
 slice-aggregate-line-of : tie.Need-slice-aggregate-line-of
 slice-aggregate-line-of c = search needs

@@ -3,11 +3,11 @@ use Prim.Native.Nat.{ℕ, _-_}
 use native.Mathlib.Omega.{arith}
 use denote.Ref.{now}
 use lib.ListN.{take}
+use Rattle.answer_line.proofs.Lines.{holds}
 use Rattle.desk_line.specs.Line.{deskLine}
-use Rattle.desk_line.proofs.Lines.{holds}
 use borrow.Author.Needs.{needs}
-use Rattle.desk.proofs.line_of.Statement.{statement}
-use Rattle.desk.proofs.line_of.Tie as tie
+use Rattle.desk_line.proofs.line_of_first.Statement.{statement}
+use Rattle.desk_line.proofs.line_of_first.Tie as tie
 
 sub-line : tie.Need-sub-line
 sub-line c = search needs
@@ -28,5 +28,5 @@ returns c =
     let same : take (args .n - 0) (now (args .buffer)) ≡ take (args .n) (now (args .buffer)) = ap (λ (k : ℕ). take k (now (args .buffer))) whole in
     holds (ap deskLine (sym same)) (c .line .ensures)
 
-pub line-of-spec : {M : Type 1} → statement M
-line-of-spec = tie.close (tie.spec sub-line part-line-start part-line-end line-requires returns)
+pub line-of-first-spec : {M : Type 1} → statement M
+line-of-first-spec = tie.close (tie.spec sub-line part-line-start part-line-end line-requires returns)

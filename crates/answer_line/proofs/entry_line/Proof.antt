@@ -4,11 +4,11 @@ use lib.ListN.{length}
 use Rattle.lists.specs.Table.{zeros}
 use Rattle.hex.specs.Hex.{textOf}
 use Rattle.hex.proofs.Text.{length-text}
-use Rattle.desk_line.specs.Line.{lineOf}
-use Rattle.desk_line.proofs.Lines.{written-whole, entry-fits, fits}
+use Rattle.answer_line.specs.Line.{lineOf}
+use Rattle.answer_line.proofs.Lines.{written-whole, entry-fits, fits}
 use borrow.Author.Needs.{needs}
-use Rattle.desk_line.proofs.entry_line.Statement.{statement}
-use Rattle.desk_line.proofs.entry_line.Tie as tie
+use Rattle.answer_line.proofs.entry_line.Statement.{statement}
+use Rattle.answer_line.proofs.entry_line.Tie as tie
 
 slice-aggregate-encode : tie.Need-slice-aggregate-encode
 slice-aggregate-encode c = search needs

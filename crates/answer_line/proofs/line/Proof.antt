@@ -4,11 +4,11 @@ use Prim.Native.Nat.{ℕ}
 use Rattle.hex.specs.Hex.{textOf}
 use Rattle.answers.specs.declared.Answer.{Answer}
 use Rattle.answers.specs.Answers.{number}
-use Rattle.desk_line.specs.Line.{shown, lineOf}
-use Rattle.desk_line.proofs.Lines.{done-line, refused-line, holds}
+use Rattle.answer_line.specs.Line.{shown, lineOf}
+use Rattle.answer_line.proofs.Lines.{done-line, refused-line, holds}
 use borrow.Author.Needs.{needs}
-use Rattle.desk_line.proofs.answer_line.Statement.{statement}
-use Rattle.desk_line.proofs.answer_line.Tie as tie
+use Rattle.answer_line.proofs.line.Statement.{statement}
+use Rattle.answer_line.proofs.line.Tie as tie
 
 enum-told : tie.Need-enum-told
 enum-told c = search needs
@@ -35,8 +35,8 @@ returns-2 c =
     let args = c .before .before .before .before .args in
     holds (refused-line (args .entry) (c .before .before .enum-told2 .given .1) (c .before .number .ensures)) (c .refusal-line .ensures)
 
-pub answer-line-spec : {M : Type 1} → statement M
-answer-line-spec =
+pub line-spec : {M : Type 1} → statement M
+line-spec =
     tie.close
     (tie.spec
     enum-told

@@ -4,8 +4,8 @@ use Rattle.lists.specs.Table.{zeros}
 use Rattle.text.specs.Text.{decimal}
 use Rattle.text.proofs.Texts.{put-none, put-more}
 use borrow.Author.Needs.{needs}
-use Rattle.desk_line.proofs.line_of.Statement.{statement}
-use Rattle.desk_line.proofs.line_of.Tie as tie
+use Rattle.answer_line.proofs.line_of.Statement.{statement}
+use Rattle.answer_line.proofs.line_of.Tie as tie
 
 slice-aggregate-put-decimal : tie.Need-slice-aggregate-put-decimal
 slice-aggregate-put-decimal c = search needs

@@ -1,0 +1,2 @@
+-- What the contracts of `answer_line` cite.
+pub mod Line
