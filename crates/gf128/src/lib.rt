@@ -24,7 +24,7 @@ fn word(b: &[u8], at: usize) -> u64
     requires { ⌜ at + 8 ≤ length (now b) ⌝ }
     ensures { λ r. ⌜ r ≡ number (eightAt (now (b .entry)) at) ⌝ }
 {
-    octets::word_at(b, at)
+    octets::word64_at(b, at)
 }
 
 // The element of 16 bytes.

@@ -9,8 +9,8 @@ join8 b0 b1 b2 b3 b4 b5 b6 b7 =
     b0 + b1 * 2 ^ 8 + b2 * 2 ^ 16 + b3 * 2 ^ 24 + b4 * 2 ^ 32 + b5 * 2 ^ 40 + b6 * 2 ^ 48 + b7 * 2 ^ 56
 
 -- the word of the eight bytes from a place on
-abbrev pub wordAt : (b : List ℕ) (at : ℕ) → ℕ
-wordAt b at =
+abbrev pub word64At : (b : List ℕ) (at : ℕ) → ℕ
+word64At b at =
     join8
     (getD b at 0)
     (getD b (at + 1) 0)

@@ -2,7 +2,7 @@
 ghost use mathlib.Core.Path.{_≡_};
 ghost use Prim.Native.Nat.{_+_, _≤_, min};
 ghost use lib.ListN.{length, getD};
-ghost use Rattle.octets.specs.Words.{join8, wordAt};
+ghost use Rattle.octets.specs.Words.{join8, word64At};
 
 // An entry, a body, a tag, an element of the tag's field.
 pub const BLOCK_LENGTH: usize = 16;
@@ -36,9 +36,9 @@ fn join(b0: u8, b1: u8, b2: u8, b3: u8, b4: u8, b5: u8, b6: u8, b7: u8) -> u64
 }
 
 // The word of eight bytes from a place on.
-pub fn word_at(b: &[u8], at: usize) -> u64
+pub fn word64_at(b: &[u8], at: usize) -> u64
     requires { ⌜ at + 8 ≤ length (now b) ⌝ }
-    ensures { λ r. ⌜ r ≡ wordAt (now (b .entry)) at ⌝ }
+    ensures { λ r. ⌜ r ≡ word64At (now (b .entry)) at ⌝ }
 {
     join(
         b[at],

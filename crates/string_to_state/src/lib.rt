@@ -12,7 +12,7 @@ fn word(b: &[u8], k: usize) -> u64
     requires { ⌜ 8 * k + 8 ≤ length (now b) ⌝ }
     ensures { λ r. ⌜ r ≡ word (now (b .entry)) k ⌝ }
 {
-    octets::word_at(b, 8 * k)
+    octets::word64_at(b, 8 * k)
 }
 
 // The lanes of a string of whole lanes, and zeros up to 25.
