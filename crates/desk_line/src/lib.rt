@@ -10,6 +10,8 @@ ghost use Prim.Native.Nat.{_≤_};
 ghost use lib.ListN.{length, take};
 ghost use Rattle.lists.specs.Table.{zeros};
 ghost use Rattle.text.specs.Text.{written};
+ghost use Rattle.records.specs.Layout.{blockLength};
+ghost use Rattle.calls.specs.Calls.{openAnswer, openOut};
 ghost use Rattle.desk_line.specs.Line.{inputLength, deskAnswer, deskEntry, deskLine};
 
 // Where the sealed entry and the dummy's noise start, behind the secret key, and where the noise ends.
@@ -25,20 +27,26 @@ struct Opened {
     entry: [u8; BLOCK_LENGTH],
 }
 
+fn open_parts(key: &[u8], sealed: &[u8], dummy: &[u8]) -> Opened
+    ensures { λ r. ⌜ r .answer ≡ openAnswer (now (key .entry)) (now (sealed .entry)) (now (dummy .entry)) blockLength ⌝ }
+    ensures { λ r. ⌜ r .entry ≡ openOut (now (key .entry)) (now (sealed .entry)) (now (dummy .entry)) (zeros blockLength) ⌝ }
+{
+    let mut entry = [0u8; BLOCK_LENGTH];
+    let answer = opening::open(key, sealed, dummy, &mut entry);
+    Opened { answer, entry }
+}
+
 // Opens an input of the right length.
 fn open_input(input: &[u8]) -> Opened
     requires { ⌜ length (now input) ≡ inputLength ⌝ }
     ensures { λ r. ⌜ r .answer ≡ deskAnswer (now (input .entry)) ⌝ }
     ensures { λ r. ⌜ r .entry ≡ deskEntry (now (input .entry)) ⌝ }
 {
-    let mut entry = [0u8; BLOCK_LENGTH];
-    let answer = opening::open(
+    open_parts(
         &input[0..SEALED],
         &input[SEALED..DUMMY],
         &input[DUMMY..INPUT_LENGTH],
-        &mut entry,
-    );
-    Opened { answer, entry }
+    )
 }
 
 // The line for an input of any length.
