@@ -1,24 +1,17 @@
 -- The desk's line by its answer.
-use mathlib.Core.Path.{_≡_, refl, sym, ap, ap₂}
-use mathlib.Core.Bool.{Bool}
+use mathlib.Core.Path.{_≡_, refl, sym, ap₂}
 use mathlib.Core.List.{List, [], _∷_}
 use Prim.Native.Nat.{ℕ}
 use native.Mathlib.Omega.{arith}
-use lib.Dec.{eqb}
 use lib.ListN.{length}
 use borrow.Author.Tests.{ne-eqb}
 use Rattle.text.specs.Text.{digitsOf}
-use Rattle.answers.specs.declared.Refusal.the-variants.{WrongLength}
 use Rattle.answers.specs.declared.Answer.{Answer}
-use Rattle.answers.specs.Answers.{number, unless}
-use Rattle.calls.specs.Calls.{openAnswer}
+use Rattle.answers.specs.Answers.{number}
 use Rattle.answer_line.specs.Line.{shown, lineOf}
-use Rattle.desk_line.specs.Line.{keyPart, sealedPart, dummyPart, deskAnswer, deskEntry, deskLine}
-
-pub answer-by-length : (input : List ℕ) {fits : Bool} → eqb (length input) 10026 ≡ fits
-    → deskAnswer input ≡ unless fits WrongLength (openAnswer (keyPart input) (sealedPart input) (dummyPart input) 16)
-unfolding deskAnswer
-answer-by-length input e = ap (λ (b : Bool). unless b WrongLength (openAnswer (keyPart input) (sealedPart input) (dummyPart input) 16)) e
+use Rattle.desk_opening.specs.Input.{deskAnswer, deskEntry}
+use Rattle.desk_opening.proofs.Answers.{answer-by-length}
+use Rattle.desk_line.specs.Line.{deskLine}
 
 pub line-by-answer : (input : List ℕ) {answer : Answer} {entry : List ℕ} → answer ≡ deskAnswer input → entry ≡ deskEntry input
     → deskLine input ≡ lineOf (number answer) (shown answer entry)

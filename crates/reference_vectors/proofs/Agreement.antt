@@ -10,7 +10,8 @@ use Rattle.lists.proofs.Zeros.{size-zeros}
 use Rattle.hex.specs.Hex.{written}
 use Rattle.answers.specs.Answers.{number}
 use Rattle.answer_line.specs.Line.{shown}
-use Rattle.desk_line.specs.Line.{deskAnswer, deskEntry, deskLine}
+use Rattle.desk_opening.specs.Input.{deskAnswer, deskEntry}
+use Rattle.desk_line.specs.Line.{deskLine}
 use Rattle.text.specs.Text.{decimal}
 use Rattle.reference_vectors.specs.Cases.{withoutFeed}
 

@@ -1,12 +1,12 @@
 use mathlib.Core.Path.{sym, _∙_}
 use denote.Ref.{now}
 use lib.ListN.{length}
-use Rattle.desk_line.specs.Line.{deskEntry}
-use Rattle.desk_line.proofs.Lines.{answer-by-length}
+use Rattle.desk_opening.specs.Input.{deskEntry}
+use Rattle.desk_opening.proofs.Answers.{answer-by-length}
 use borrow.Author.Tests.{eq-eqb}
 use borrow.Author.Needs.{needs}
-use Rattle.desk_line.proofs.open_input.Statement.{statement}
-use Rattle.desk_line.proofs.open_input.Tie as tie
+use Rattle.desk_opening.proofs.open_input.Statement.{statement}
+use Rattle.desk_opening.proofs.open_input.Tie as tie
 
 sub-open-parts : tie.Need-sub-open-parts
 sub-open-parts c = search needs

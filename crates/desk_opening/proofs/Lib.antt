@@ -1,0 +1,2 @@
+-- Laws of the desk's answer.
+pub mod Answers

@@ -1,0 +1,2 @@
+-- What the contracts of `desk_opening` cite.
+pub mod Input
