@@ -1,4 +1,5 @@
 // On how many cases of key making the samples agree with the keys.
+// A case has nine fields: the stream, the noise of s and of e, the lengths of both keys, the number, an empty field, and both keys.
 ghost use mathlib.Core.Path.{_≡_};
 ghost use lib.ListN.{length};
 ghost use Rattle.sampling.specs.Stream.{taken};

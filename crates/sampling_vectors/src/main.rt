@@ -1,6 +1,5 @@
 // Works through samples with known results. It prints the coefficient of each four bits, how many of two words are taken, and on how
 // many of the cases of key making on standard input the samples agree with the keys.
-// A case has nine fields: the stream, the noise of s and of e, the lengths of both keys, the number, an empty field, and both keys.
 ghost use mathlib.Core.Path.{_≡_};
 ghost use Prim.Native.Nat.{_<_};
 ghost use Rattle.sampling.specs.Noise.{noiseCoefficient};
@@ -10,8 +9,6 @@ use modq::Q;
 use sampling_cases::Counts;
 
 const MINUS_ONE: u16 = Q - 1;
-
-// ---- what is printed
 
 fn print_count(count: u64, what: &[u8]) {
     io::print_decimal(STDOUT_FILENO, count);

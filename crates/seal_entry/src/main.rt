@@ -12,8 +12,6 @@ use libc::STDERR_FILENO;
 use libc::STDIN_FILENO;
 use libc::STDOUT_FILENO;
 
-// ---- reading and writing
-
 // One byte more than the input has, so that longer input is told from input that fits, and an endless one ends.
 fn input_buffer() -> [u8; INPUT_LENGTH + 1]
     ensures { λ r. ⌜ r ≡ zeros (inputLength + 1) ⌝ }

@@ -13,7 +13,7 @@ use Rattle.answers.specs.declared.Answer.{Answer}
 use Rattle.answers.specs.declared.Answer.the-variants.{Done, Refused}
 use Rattle.answers.specs.Answers.{unless, onDone}
 use Rattle.calls.specs.Calls.{keygenAnswer}
-use Rattle.make_key.specs.MakeKey.{streamPart, sPart, ePart, makeKeyAnswer, publicKey, secretKey, standardOutput}
+use Rattle.make_key_output.specs.MakeKey.{streamPart, sPart, ePart, makeKeyAnswer, publicKey, secretKey, standardOutput}
 
 pub answer-by-length : (input : List ℕ) {fits : Bool} → eqb (length input) 3712 ≡ fits
     → makeKeyAnswer input ≡ unless fits WrongLength (keygenAnswer (streamPart input) (sPart input) (ePart input) 4101 4357)

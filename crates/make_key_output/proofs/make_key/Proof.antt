@@ -1,10 +1,10 @@
 use mathlib.Core.Path.{sym, _∙_}
 use denote.Ref.{now}
-use Rattle.make_key.specs.MakeKey.{standardError}
-use Rattle.make_key.proofs.Printing.{output-done, output-refused}
+use Rattle.make_key_output.specs.MakeKey.{standardError}
+use Rattle.make_key_output.proofs.Printing.{output-done, output-refused}
 use borrow.Author.Needs.{needs}
-use Rattle.make_key.proofs.make_key.Statement.{statement}
-use Rattle.make_key.proofs.make_key.Tie as tie
+use Rattle.make_key_output.proofs.make_key.Statement.{statement}
+use Rattle.make_key_output.proofs.make_key.Tie as tie
 
 keys-of-requires : tie.Need-keys-of-requires
 keys-of-requires c κs = search needs

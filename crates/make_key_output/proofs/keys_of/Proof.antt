@@ -5,11 +5,11 @@ use borrow.Author.Tests.{ne-eqb, eq-eqb}
 use Rattle.answers.specs.declared.Answer.{Answer}
 use Rattle.answers.specs.Answers.{onDone}
 use Rattle.calls.specs.Calls.{keygenAnswer, keygenPublic, keygenSecret}
-use Rattle.make_key.specs.MakeKey.{streamPart, sPart, ePart, publicKey, secretKey}
-use Rattle.make_key.proofs.Printing.{answer-by-length}
+use Rattle.make_key_output.specs.MakeKey.{streamPart, sPart, ePart, publicKey, secretKey}
+use Rattle.make_key_output.proofs.Printing.{answer-by-length}
 use borrow.Author.Needs.{needs}
-use Rattle.make_key.proofs.keys_of.Statement.{statement}
-use Rattle.make_key.proofs.keys_of.Tie as tie
+use Rattle.make_key_output.proofs.keys_of.Statement.{statement}
+use Rattle.make_key_output.proofs.keys_of.Tie as tie
 
 returns : tie.Need-returns
 returns c = (sym (answer-by-length _ (ne-eqb _ 3712 (c .if1 .taken))), (refl, refl))
