@@ -4,6 +4,7 @@ use mathlib.Core.List.{List}
 use Prim.Native.Nat.{ℕ, _+_, _-_, _%_}
 use lib.Dec.{eqb}
 use lib.ListN.{length, getD, take}
+use Rattle.modq.specs.Modulus.{q}
 use Rattle.sampling.specs.Noise.{ternaryNoise}
 use Rattle.desk_line.specs.Line.{deskLine}
 use Rattle.vectors.specs.declared.Verdict.{Verdict}
@@ -29,7 +30,7 @@ case? kind text = hasField (lastField kind) text
 
 -- the coefficient of a number above −q, which stands in two's complement
 abbrev pub residueOf : ℕ → ℕ
-residueOf w = (w + 59393) % 4294967296 % 59393
+residueOf w = (w + q) % 4294967296 % q
 
 -- four bits, in a byte with zeros above them, and their coefficient
 abbrev pub noiseAgrees? : List ℕ → Bool

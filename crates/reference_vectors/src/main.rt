@@ -21,11 +21,13 @@ enum Kind {
 
 // ---- four bits of noise
 
+const Q: u64 = modq::Q as u64;
+
 // The coefficient of a small number in two's complement.
 fn residue(w: u32) -> u64
     ensures { λ r. ⌜ r ≡ residueOf w ⌝ }
 {
-    (w as u64 + 59393) % 4294967296 % 59393
+    (w as u64 + Q) % 4294967296 % Q
 }
 
 fn noise_agrees(text: &[u8]) -> bool

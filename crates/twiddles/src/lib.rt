@@ -15,6 +15,8 @@ ghost use Rattle.twiddles.specs.Factors.{blockOf, forwardFactors, backwa
 // The degree of the ring.
 pub const DEGREE: usize = 1024;
 
+const DEGREE_U16: u16 = DEGREE as u16;
+
 // A transform has ten layers of 512 pairs, with a factor for each pair.
 pub const HALF: usize = DEGREE / 2;
 
@@ -65,7 +67,7 @@ fn opposites(e: [u16; DEGREE]) -> [u16; DEGREE]
 {
     let mut r = [0u16; DEGREE];
     for m in 0..DEGREE {
-        r[m] = 1024 - e[m];
+        r[m] = DEGREE_U16 - e[m];
     }
     r
 }
@@ -84,7 +86,7 @@ fn block_factors(e: [u16; DEGREE]) -> [u16; DEGREE]
     let t = power_forms();
     let mut r = [0u16; DEGREE];
     for m in 0..DEGREE {
-        let at = (e[m] % 1024) as usize;
+        let at = (e[m] % DEGREE_U16) as usize;
         r[m] = t[at];
     }
     r
