@@ -1,5 +1,5 @@
 // Openings of what was read: a secret key, from whatever source, an encapsulation or a sealed entry, and a dummy. Every answer is worked
-// out before they are joined in document 01's order; beside a refusal stand zeros.
+// out before they are joined in document 01's order; where no triple is found the triple is zeros.
 use answers::Answer;
 use answers::Refusal;
 use keys::SecretKey;

@@ -17,7 +17,7 @@ ghost use Rattle.ring.specs.Ring.{one, sum, difference, multiple, produc
 ghost use Rattle.ring.specs.Invertible.{invertible?, inverseOf};
 ghost use Rattle.ring.specs.Centred.{centred, residue, centredRemainder, remainderOf, remainders, near?, within?};
 
-// ---- sums and multiples
+// ---- sums and multiples, word by word: of spectra they are the spectra of sums and multiples
 
 pub fn one() -> Element
     ensures { λ r. ⌜ r ≡ one ⌝ }
