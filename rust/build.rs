@@ -89,11 +89,11 @@ fn search(archive: &Path) {
 fn main() {
     println!("cargo:rerun-if-env-changed=POLKA_ARCHIVE");
     println!("cargo:rerun-if-changed=build.rs");
-    let named = env::var_os("POLKA_ARCHIVE");
+    let named = env::var_os("POLKA_ARCHIVE").map(PathBuf::from);
     // The benchmark says which archive it has timed.
-    let shown = named.as_deref().unwrap_or("target/staticlib/libpolka.a".as_ref());
+    let shown = named.as_deref().unwrap_or(Path::new("target/staticlib/libpolka.a"));
     println!("cargo:rustc-env=POLKA_LINKED={}", shown.display());
-    if named.as_deref().is_some_and(|name| name == "none") {
+    if named.as_deref() == Some(Path::new("none")) {
         return;
     }
     let archive = match named {

@@ -10,7 +10,7 @@ use library::LIBRARY;
 
 fn compare(count: &mut Count, case: &Case, number: Option<u32>) {
     let expected = run(&REFERENCE, case);
-    assert!(number.is_none_or(|number| number == expected.number), "{}: the reference says {}", case.name, expected.number);
+    assert!(number.map_or(true, |number| number == expected.number), "{}: the reference says {}", case.name, expected.number);
     count.add(&case.name, &expected, &run(&LIBRARY, case));
 }
 
