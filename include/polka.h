@@ -24,11 +24,13 @@
 #include <stdint.h>
 
 /* The version of these declarations. The minor number rises with each change that callers can see, and until there is a major one such a
- * change may be a break. */
+ * change may be a break.
+ * 0.2: four bits of noise, t0 the lowest, give t0 - t1 + t2 - t3, where 2 becomes -1 and -2 becomes 1. It was t0 + t1 - t2 - t3. So the same
+ * bytes make another key and another sealed entry; what was made before still opens. */
 #define POLKA_VERSION_MAJOR 0
-#define POLKA_VERSION_MINOR 1
+#define POLKA_VERSION_MINOR 2
 #define POLKA_VERSION_PATCH 0
-#define POLKA_VERSION "0.1.0"
+#define POLKA_VERSION "0.2.0"
 
 /* The compiler warns where an answer is not looked at. */
 #if (defined(__cplusplus) && __cplusplus >= 201703L) || (defined(__STDC_VERSION__) && __STDC_VERSION__ >= 202311L)

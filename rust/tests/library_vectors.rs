@@ -37,6 +37,11 @@ fn open() {
 }
 
 #[test]
+fn open_sealed_before() {
+    vectors::compare_open_sealed_before(&LIBRARY);
+}
+
+#[test]
 fn shake256() {
     vectors::compare_shake256(&LIBRARY);
 }

@@ -25,6 +25,7 @@ fn every_call_on_every_vector() {
     vectors::compare_decapsulate(&FAST);
     vectors::compare_seal(&FAST);
     vectors::compare_open(&FAST);
+    vectors::compare_open_sealed_before(&FAST);
     vectors::compare_shake256(&FAST);
     vectors::compare_desk(&FAST);
 }

@@ -36,6 +36,11 @@ fn open() {
 }
 
 #[test]
+fn open_sealed_before() {
+    vectors::compare_open_sealed_before(&REFERENCE);
+}
+
+#[test]
 fn shake256() {
     vectors::compare_shake256(&REFERENCE);
 }

@@ -10,9 +10,10 @@ pub mod Promised
 -- When 6 is said, and what refusals leave.
 pub mod NotInvertible
 pub mod Untouched
--- Round trips.
+-- Records already made, and round trips.
 pub mod Encapsulations
 pub mod BareEncapsulations
 pub mod SealedEntries
+pub mod RecordsOpen
 pub mod GeneratedKeys
 pub mod RoundTrips

@@ -1,5 +1,5 @@
 -- Demand 3: the key check and both openings answer by whether a triple exists, whatever dummy is mixed in. Then when 6 is said, untouched
--- outputs, and round trips.
+-- outputs, that records already made open, and round trips.
 use mathlib.Core.Path.{_≡_}
 use mathlib.Core.Bool.{true}
 use mathlib.Core.List.{List}
@@ -22,7 +22,8 @@ use Rattle.records.specs.WellFormed.{WellFormedFront, WellFormedPublicKey, Well
 use Rattle.triples.specs.WellFormed.{WellFormedTriple}
 use Rattle.keys.specs.Keys.{publicAnswer, secretAnswer, elementsOf, Matches, keygenB, tripleNoiseLength}
 use Rattle.calls.specs.Calls.{checkAnswer, keygenAnswer, keygenPublic, keygenSecret}
-use Rattle.calls.specs.Calls.{encapsulateAnswer, encapsulateOut, decapsulateAnswer, decapsulateOut, sealAnswer, sealOut, openAnswer, openOut}
+use Rattle.calls.specs.Calls.{encapsulateAnswer, encapsulatedWith, encapsulateOut, decapsulateAnswer, decapsulateOut}
+use Rattle.calls.specs.Calls.{sealAnswer, sealedWith, sealOut, openAnswer, openOut}
 
 -- ---- the words of demand 3
 
@@ -130,7 +131,7 @@ pub record Untouched : Type 0 where
   pub seal : (k noise entry out : List ℕ) → ¬ (number (sealAnswer k noise entry (length out)) ≡ 0) → sealOut k noise entry out ≡ out
   pub open-entry : (k sealed noise out : List ℕ) → ¬ (number (openAnswer k sealed noise (length out)) ≡ 0) → openOut k sealed noise out ≡ out
 
--- ---- round trips
+-- ---- records already made
 
 -- a public record with the a and b of the secret key k
 pub record PublicOf (p k : List ℕ) : Type 0 where
@@ -143,6 +144,21 @@ pub record PublicOf (p k : List ℕ) : Type 0 where
 -- every number is a byte
 abbrev pub Bytes : List ℕ → Type 0
 Bytes l = (i : ℕ) → getD l i 0 < 256
+
+-- what was made for an accepted key with a ternary triple, whatever way the triple was drawn, that key opens, whatever the dummy
+pub record RecordsOpen : Type 0 where
+  -- a sealed entry to its entry
+  pub sealed : (k p : List ℕ) (t : Triple) (entry dummy out : List ℕ) → Accepted k → PublicOf p k → Ternaries t
+      → length entry ≡ blockLength → Bytes entry → length dummy ≡ tripleNoiseLength → length out ≡ blockLength
+      → (number (openAnswer k (sealedWith (firstOf p) (secondOf p) t entry) dummy (length out)) ≡ 0)
+      × (openOut k (sealedWith (firstOf p) (secondOf p) t entry) dummy out ≡ entry)
+  -- an encapsulation to its triple
+  pub encapsulated : (k p : List ℕ) (t : Triple) (dummy out : List ℕ) → Accepted k → PublicOf p k → Ternaries t
+      → WellFormedTriple dummy → length out ≡ tripleLength
+      → (number (decapsulateAnswer k (encapsulatedWith (firstOf p) (secondOf p) t) dummy (length out)) ≡ 0)
+      × (decapsulateOut k (encapsulatedWith (firstOf p) (secondOf p) t) dummy out ≡ tripleBytes (t .r) (t .e1) (t .e2))
+
+-- ---- round trips
 
 pub record RoundTrips : Type 0 where
   -- what is sealed for an accepted key, that key opens to the same entry, whatever the noise and the dummy

@@ -13,4 +13,4 @@ unfolding centred aroundZero centredRemainder folded fourBits carrylessProduct r
 examples-hold =
     let x1023 = powers-wrap 1023 1 (omega arith) (omega arith) refl in
     let x512 = powers-wrap 512 512 (omega arith) (omega arith) refl in
-    (x1023, (x512, (refl, (refl, (refl, (refl, (refl, (refl, (refl, (refl, (refl, (refl, (refl, (refl, (refl, (refl, tt))))))))))))))))
+    (x1023, (x512, (refl, (refl, (refl, (refl, (refl, (refl, (refl, (refl, (refl, (refl, (refl, (refl, (refl, (refl, (refl, (refl, tt))))))))))))))))))

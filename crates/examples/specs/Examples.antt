@@ -1,4 +1,5 @@
--- The worked examples of document 01 ("Lanes to try") that are marked with a star, as one table of cases, in its order.
+-- The worked examples of document 01 ("Lanes to try") that are marked with a star, as one table of cases, in its order. Those of the noise
+-- are as document 02, No. 1, has them.
 use mathlib.Core.Path.{_≡_}
 use mathlib.Core.List.{List, [], _∷_}
 use Prim.Native.Nat.{ℕ, _^_}
@@ -39,11 +40,14 @@ examples =
     ∷ powers 512 512 59392
     ∷ noise 0 (pos 0)
     ∷ noise 1 (pos 1)
-    ∷ noise 3 (negℤ (pos 1))
-    ∷ noise 4 (negℤ (pos 1))
+    ∷ noise 3 (pos 0)
+    ∷ noise 4 (pos 1)
     ∷ noise 7 (pos 1)
-    ∷ noise 12 (pos 1)
+    ∷ noise 12 (pos 0)
     ∷ noise 15 (pos 0)
+    -- the two that document 02 adds
+    ∷ noise 10 (pos 1)
+    ∷ noise 5 (negℤ (pos 1))
     ∷ remainder (pos 3) (negℤ (pos 2))
     ∷ remainder (negℤ (pos 3)) (pos 2)
     ∷ remainder (pos 20482) (pos 2)

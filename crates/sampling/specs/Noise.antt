@@ -16,9 +16,9 @@ folded (pos (suc (suc s))) = negℤ (pos 1)
 folded (negsuc zero) = negℤ (pos 1)
 folded (negsuc (suc s)) = pos 1
 
--- t0 + t1 - t2 - t3 of the four lowest bits, folded
+-- t0 - t1 + t2 - t3 of the four lowest bits, folded (document 02, No. 1)
 unfoldable pub fourBits : ℕ → ℤ
-fourBits t = folded (pos (bit 0 t) +ℤ pos (bit 1 t) -ℤ pos (bit 2 t) -ℤ pos (bit 3 t))
+fourBits t = folded (pos (bit 0 t) -ℤ pos (bit 1 t) +ℤ pos (bit 2 t) -ℤ pos (bit 3 t))
 
 -- the coefficient that four bits give
 unfoldable pub noiseCoefficient : ℕ → ℕ

@@ -29,7 +29,7 @@ fn noise(t: u8) -> u16
     let t1 = t / 2 % 2;
     let t2 = t / 4 % 2;
     let t3 = t / 8 % 2;
-    encoding::coefficient((t0 + t1 + 2 * t2 + 2 * t3) % 3)
+    encoding::coefficient((t0 + t2 + 2 * (t1 + t3)) % 3)
 }
 
 // The ternary polynomial of the first 512 bytes, two coefficients a byte. Missing bytes count as zeros.

@@ -37,14 +37,19 @@ caseAgrees? number stream noise public secret =
     (cond (eqb number 6) (eqb (length (taken stream)) n)
     (cond (eqb number 8) (ltb (length (taken stream)) n) false))
 
--- the stream and the noise have the right lengths
-abbrev pub fits? : (stream noise : List ℕ) → Bool
-fits? stream noise = eqb (length stream) streamLength && eqb (length noise) noiseLength
+-- every buffer has the right length: the stream, the noise of s and of e, and both keys
+abbrev pub fits? : List ℕ → Bool
+fits? text =
+    eqb (length (field 0 text)) streamLength
+    && eqb (length (field 1 text)) noiseLength
+    && eqb (length (field 2 text)) noiseLength
+    && eqb (word32 (field 3 text)) publicKeyLength
+    && eqb (word32 (field 4 text)) secretKeyLength
 
 -- the verdict on the case that a text starts with
 unfoldable pub verdict : List ℕ → Verdict
 verdict text =
-    verdictOf (fits? (field 0 text) (field 1 text))
+    verdictOf (fits? text)
     (caseAgrees? (word32 (field 5 text)) (field 0 text) (field 1 text) (field 7 text) (field 8 text))
 
 -- ---- a text of cases

@@ -75,10 +75,15 @@ fn agrees(number: u32, stream: &[u8], noise: &[u8], public: &[u8], secret: &[u8]
     }
 }
 
-fn fitting(stream: &[u8], noise: &[u8]) -> bool
-    ensures { λ r. ⌜ r ≡ fits? (now (stream .entry)) (now (noise .entry)) ⌝ }
+// Whether every buffer of the first case has the right length.
+fn fitting(text: &[u8]) -> bool
+    ensures { λ r. ⌜ r ≡ fits? (now (text .entry)) ⌝ }
 {
-    (stream.len() == STREAM_LENGTH) & (noise.len() == NOISE_LENGTH)
+    (vectors::field(text, 0).len() == STREAM_LENGTH)
+        & (vectors::field(text, 1).len() == NOISE_LENGTH)
+        & (vectors::field(text, 2).len() == NOISE_LENGTH)
+        & (vectors::number(text, 3) as usize == PUBLIC_KEY_LENGTH)
+        & (vectors::number(text, 4) as usize == SECRET_KEY_LENGTH)
 }
 
 // Judges the first case of the text. A case with other lengths counts as malformed: key making refuses it, which is no matter of sampling.
@@ -90,7 +95,7 @@ fn judge(text: &[u8]) -> Verdict
     let public = vectors::field(text, 7);
     let secret = vectors::field(text, 8);
     vectors::judged(
-        fitting(stream, noise),
+        fitting(text),
         agrees(vectors::number(text, 5), stream, noise, public, secret),
     )
 }

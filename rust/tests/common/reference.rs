@@ -294,7 +294,7 @@ fn triple_bytes(triple: &Triple) -> Vec<u8> {
 
 pub fn noise_value(four: u8) -> i32 {
     let bit = |i: u8| i32::from(four >> i & 1);
-    match bit(0) + bit(1) - bit(2) - bit(3) {
+    match bit(0) - bit(1) + bit(2) - bit(3) {
         2 => -1,
         -2 => 1,
         value => value,

@@ -4,16 +4,18 @@ use std::path::{Path, PathBuf};
 
 use super::cases::{run, Call, Calls, Case, Count, Outcome};
 
-/// Where the file stands: in the folder POLKA_VECTORS, or with the program of the gate that works through it.
+/// Where the file stands: in the folder POLKA_VECTORS or, where that has none of the name, with the program of the gate that works
+/// through it. So a folder may hold the files of one change alone.
 fn path(file: &str) -> PathBuf {
     let name = format!("{file}.bin");
-    if let Some(folder) = std::env::var_os("POLKA_VECTORS") {
-        return Path::new(&folder).join(name);
-    }
     let crates = Path::new(env!("CARGO_MANIFEST_DIR")).join("../crates");
-    ["reference_vectors", "ring_vectors", "gf128_vectors"]
-        .iter()
-        .map(|program| crates.join(program).join("data").join(&name))
+    let programs = ["reference_vectors", "ring_vectors", "gf128_vectors"].map(|program| crates.join(program).join("data"));
+    let named = std::env::var_os("POLKA_VECTORS").map(PathBuf::from);
+    assert!(named.iter().all(|folder| folder.is_dir()), "POLKA_VECTORS names no folder");
+    named
+        .into_iter()
+        .chain(programs)
+        .map(|folder| folder.join(&name))
         .find(|path| path.exists())
         .unwrap_or_else(|| panic!("{name}: not found; name its folder in POLKA_VECTORS"))
 }
@@ -96,6 +98,11 @@ pub fn compare_seal(calls: &Calls) {
 
 pub fn compare_open(calls: &Calls) {
     compare(calls, "vectors, open", "open", Call::Open, 3, 1);
+}
+
+/// Entries that were sealed before the noise was read as it is now: they open still.
+pub fn compare_open_sealed_before(calls: &Calls) {
+    compare(calls, "vectors, entries sealed before", "open_sealed_before", Call::Open, 3, 1);
 }
 
 pub fn compare_shake256(calls: &Calls) {

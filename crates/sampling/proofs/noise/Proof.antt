@@ -14,14 +14,11 @@ use Rattle.sampling.proofs.noise.Tie as tie
 add-coefficient : tie.Need-add-coefficient
 add-coefficient c = search needs
 
-mul-coefficient : tie.Need-mul-coefficient
-mul-coefficient c = search needs
-
 add-coefficient-2 : tie.Need-add-coefficient-2
 add-coefficient-2 c = search needs
 
-mul-coefficient-2 : tie.Need-mul-coefficient-2
-mul-coefficient-2 c = search needs
+mul-coefficient : tie.Need-mul-coefficient
+mul-coefficient c = search needs
 
 add-coefficient-3 : tie.Need-add-coefficient-3
 add-coefficient-3 c = search needs
@@ -31,7 +28,7 @@ coefficient-requires c κs = search needs
 
 -- what is computed of t
 abbrev code : ℕ → ℕ
-code t = (t % 2 + t / 2 % 2 + 2 * (t / 4 % 2) + 2 * (t / 8 % 2)) % 3
+code t = (t % 2 + t / 4 % 2 + 2 * (t / 2 % 2 + t / 8 % 2)) % 3
 
 by-code : (t : ℕ) → t < 256 → coefficientOf q (code t) ≡ noiseCoefficient (t % 16)
 unfolding coefficientOf noiseCoefficient fourBits folded residue
@@ -45,9 +42,8 @@ noise-spec =
     tie.close
     (tie.spec
     add-coefficient
-    mul-coefficient
     add-coefficient-2
-    mul-coefficient-2
+    mul-coefficient
     add-coefficient-3
     coefficient-requires
     returns)

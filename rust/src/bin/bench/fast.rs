@@ -390,7 +390,7 @@ fn encode(a: &Element, bytes: &mut [u8]) {
 
 pub fn from_noise(bytes: &[u8]) -> Element {
     let value = |four: u8| {
-        let sum = i16::from(four & 1) + i16::from(four >> 1 & 1) - i16::from(four >> 2 & 1) - i16::from(four >> 3 & 1);
+        let sum = i16::from(four & 1) - i16::from(four >> 1 & 1) + i16::from(four >> 2 & 1) - i16::from(four >> 3 & 1);
         let value = if sum == 2 {
             -1
         } else if sum == -2 {
