@@ -1,5 +1,5 @@
 -- Sealed entries: what is read from what is written with a triple.
-use mathlib.Core.Path.{_≡_, ap, _∙_}
+use mathlib.Core.Path.{_≡_, refl, ap, _∙_}
 use mathlib.Core.List.{List, _++_, append-assoc}
 use Prim.Native.Nat.{ℕ}
 use lib.ListN.{length}
@@ -7,7 +7,7 @@ use native.Mathlib.Omega.{arith}
 use Rattle.scheme.specs.Scheme.{Triple, masked}
 use Rattle.gf128.specs.Bytes.{Block}
 use Rattle.derivation.specs.Derivation.{bodyOf, tagOf}
-use Rattle.records.specs.Records.{firstOf, secondOf, bodyPart, tagPart, recordBytes}
+use Rattle.records.specs.Records.{firstOf, secondOf, bodyPart, tagPart, recordBytes, sealedEntryBytes}
 use Rattle.calls.specs.Calls.{sealedWith}
 use Rattle.records.specs.WellFormed.{WellFormedEntry}
 use Rattle.records.specs.Layout.{sealedEntryMark, sealedEntryLength, tagPlace}
@@ -40,9 +40,13 @@ module _ (a b : List ℕ) (t : Triple) {entry : List ℕ} (h : Block entry) wher
   tag-block : Block tag
   tag-block = tagOf-block (t .r) (t .e1) (t .e2) body
 
-  behind-front : sealedWith a b t entry ≡ front ++ (body ++ tag)
+  -- by its parts, compared here once
+  is-sealed : sealedWith a b t entry ≡ sealedEntryBytes c1 c2 body tag
   unfolding sealedWith
-  behind-front = append-assoc front body tag
+  is-sealed = refl
+
+  behind-front : sealedWith a b t entry ≡ front ++ (body ++ tag)
+  behind-front = is-sealed ∙ append-assoc front body tag
 
   pub sealed-first : firstOf (sealedWith a b t entry) ≡ c1
   sealed-first = ap firstOf behind-front ∙ record-first sealedEntryMark 1 c1 c2 (body ++ tag) (masked-element _ _ _)
@@ -51,19 +55,16 @@ module _ (a b : List ℕ) (t : Triple) {entry : List ℕ} (h : Block entry) wher
   sealed-second = ap secondOf behind-front ∙ record-second sealedEntryMark 1 c1 c2 (body ++ tag) (masked-element _ _ _)
 
   pub sealed-body : bodyPart (sealedWith a b t entry) ≡ body
-  unfolding sealedWith
-  sealed-body = part-behind front body tag (length-recordBytes sealedEntryMark 1 c1 c2) (body-block .size)
+  sealed-body = ap bodyPart is-sealed ∙ part-behind front body tag (length-recordBytes sealedEntryMark 1 c1 c2) (body-block .size)
 
   before-tag : length (front ++ body) ≡ tagPlace
   before-tag = length-both front body (length-recordBytes sealedEntryMark 1 c1 c2) (body-block .size)
 
   pub sealed-tag : tagPart (sealedWith a b t entry) ≡ tag
-  unfolding sealedWith
-  sealed-tag = part-end (front ++ body) tag before-tag (tag-block .size)
+  sealed-tag = ap tagPart is-sealed ∙ part-end (front ++ body) tag before-tag (tag-block .size)
 
   sealed-size : length (sealedWith a b t entry) ≡ sealedEntryLength
-  unfolding sealedWith
-  sealed-size = length-both (front ++ body) tag before-tag (tag-block .size)
+  sealed-size = ap length is-sealed ∙ length-both (front ++ body) tag before-tag (tag-block .size)
 
   pub sealed-well-formed : WellFormedEntry (sealedWith a b t entry)
   sealed-well-formed = record {
