@@ -145,7 +145,8 @@ pub record PublicOf (p k : List ℕ) : Type 0 where
 abbrev pub Bytes : List ℕ → Type 0
 Bytes l = (i : ℕ) → getD l i 0 < 256
 
--- what was made for an accepted key with a ternary triple, whatever way the triple was drawn, that key opens, whatever the dummy
+-- document 02, No. 1: what was made for an accepted key with a ternary triple, whatever way the triple was drawn, that key opens, whatever
+-- the dummy
 pub record RecordsOpen : Type 0 where
   -- a sealed entry to its entry
   pub sealed : (k p : List ℕ) (t : Triple) (entry dummy out : List ℕ) → Accepted k → PublicOf p k → Ternaries t

@@ -1,4 +1,4 @@
-// Polynomials from random bytes: document 01, "Desk key". Both functions take bytes of any length.
+// Polynomials from random bytes: document 01, "Desk key", and for the four bits document 02, No. 1. Both functions take bytes of any length.
 use modq::Q;
 use ntt::DEGREE;
 use ntt::Element;

@@ -1,4 +1,4 @@
-use mathlib.Core.Path.{_≡_, _∙_}
+use mathlib.Core.Path.{_≡_, ap, _∙_}
 use Prim.Native.Nat.{ℕ, _+_, _*_, _/_, _%_, _<_}
 use native.Mathlib.Omega.{arith}
 use lib.Dec.{eqb, eqb→eq}
@@ -26,16 +26,19 @@ add-coefficient-3 c = search needs
 coefficient-requires : tie.Need-coefficient-requires
 coefficient-requires c κs = search needs
 
--- what is computed of t
-abbrev code : ℕ → ℕ
-code t = (t % 2 + t / 4 % 2 + 2 * (t / 2 % 2 + t / 8 % 2)) % 3
+-- t0 - t1 + t2 - t3, with 3 added for each bit that is taken away
+abbrev sum : ℕ → ℕ
+sum t = t % 2 + 2 * (t / 2 % 2) + t / 4 % 2 + 2 * (t / 8 % 2)
 
-by-code : (t : ℕ) → t < 256 → coefficientOf q (code t) ≡ noiseCoefficient (t % 16)
+-- modulo 3 it is the code of the coefficient
+by-sum : (t : ℕ) → t < 256 → coefficientOf q (sum t % 3) ≡ noiseCoefficient (t % 16)
 unfolding coefficientOf noiseCoefficient fourBits folded residue
-by-code t h = eqb→eq _ _ (at-each 256 (λ k. eqb (coefficientOf q (code k)) (noiseCoefficient (k % 16))) tt t h)
+by-sum t h = eqb→eq _ _ (at-each 256 (λ k. eqb (coefficientOf q (sum k % 3)) (noiseCoefficient (k % 16))) tt t h)
 
 returns : tie.Need-returns
-returns c = c .coefficient .ensures ∙ by-code (c .before .args .t) (omega arith)
+returns c =
+    let t = c .before .args .t in
+    c .coefficient .ensures ∙ ap (λ (x : ℕ). coefficientOf q (x % 3)) (omega arith) ∙ by-sum t (omega arith)
 
 pub noise-spec : {M : Type 1} → statement M
 noise-spec =

@@ -1,4 +1,4 @@
-use mathlib.Core.Path.{_≡_, refl, sym, ap, _∙_}
+use mathlib.Core.Path.{_≡_, refl, ap, _∙_}
 use Prim.Native.Nat.{ℕ, _+_, _-_, _*_, _/_, _%_, _<_}
 use native.Mathlib.Omega.{arith}
 use lib.ListN.{getD}
@@ -68,12 +68,12 @@ loop-again c =
     let bytes = now (at .before .before .before .args .bytes) in
     let i = at .loop .i in
     let b : getD bytes i 0 < 256 = omega (arith, c .before .before .shared-slice-known2 .given i) in
-    let low : getD bytes i 0 % 16 % 16 ≡ nibbleAt bytes (2 * i) = sym (digit-first 16 2 bytes i (omega arith) ∙ omega arith) in
-    let high : getD bytes i 0 / 16 % 16 ≡ nibbleAt bytes (2 * i + 1) = sym (digit-in 16 2 bytes i 1 (omega arith)) in
+    let low = digit-first 16 2 bytes i (omega arith) in
+    let high = digit-in 16 2 bytes i 1 (omega arith) in
     let rule : ℕ → ℕ = λ k. noiseCoefficient (nibbleAt bytes k) in
     zero-filled-next rule
-    (zero-filled-next rule (at .loop .inv) (omega arith) (c .before .noise .ensures ∙ ap noiseCoefficient low) refl)
-    (omega arith) (c .noise2 .ensures ∙ ap noiseCoefficient high) (omega arith)
+    (zero-filled-next rule (at .loop .inv) (omega arith) (c .before .noise .ensures ∙ ap noiseCoefficient (omega (arith, low))) refl)
+    (omega arith) (c .noise2 .ensures ∙ ap noiseCoefficient (omega (arith, high))) (omega arith)
 
 returns : tie.Need-returns Inv-loop μ-loop
 unfolding noiseBy
