@@ -20,10 +20,10 @@ use Rattle.octets.specs.Words.{join8}
 use Rattle.string_to_state.specs.Words.{word, stateOf}
 use Rattle.state_to_string.specs.Bytes.{laneByte, byteOf, bytesOf}
 use Rattle.shake.specs.Sponge.{xorState, absorbBlock, absorbed, permuted, squeezed, absorb, squeeze}
-use Rattle.shake.specs.Shake.{padding, padded, shake, shake256}
+use Rattle.shake.specs.Shake.{padding, padded, shake, shake128, shake256}
 use Rattle.fips202.specs.Keccak.{Array, bits, _⊕_, roundsBits}
 use Rattle.fips202.proofs.Keccak.{Same, rounds-same, keccak-bits}
-use Rattle.fips202.specs.Shake.{bitsOf, arrayOf, stringOf, keccakBits, pad101, absorbBlockBits, absorbedBits, permutedBits, squeezedBits, spongeBits, shake256Bits}
+use Rattle.fips202.specs.Shake.{bitsOf, arrayOf, stringOf, keccakBits, pad101, absorbBlockBits, absorbedBits, permutedBits, squeezedBits, spongeBits, shake128Bits, shake256Bits}
 
 -- ---- strings
 
@@ -327,6 +327,11 @@ shake-bits r h m d w =
     bits-take d (squeezed r (d / r + 1) s)
     ∙ ap (take (8 * d)) (squeezed-bits r (d / r + 1) s (absorbed-wide r (length p / r) p wp)
     ∙ ap₂ (squeezedBits (8 * r)) turns (absorbed-bits r (length p / r) p wp ∙ ap₂ (absorbedBits (8 * r)) blocks string))
+
+-- SHAKE128 on bytes is SHAKE128 of FIPS 202 on bits
+pub shake128-bits : (m : List ℕ) (d : ℕ) → Bytes m → bitsOf (shake128 m d) ≡ shake128Bits (bitsOf m) (8 * d)
+unfolding shake128 shake128Bits
+shake128-bits m d w = shake-bits 168 (omega arith) m d w
 
 -- SHAKE256 on bytes is SHAKE256 of FIPS 202 on bits
 pub shake256-bits : (m : List ℕ) (d : ℕ) → Bytes m → bitsOf (shake256 m d) ≡ shake256Bits (bitsOf m) (8 * d)

@@ -1,5 +1,5 @@
--- SHAKE256 as FIPS 202 states it, on strings of bits; each entry of a list is 0 or 1. `shake256-bits` of proofs/Shake.antt shows
--- that the definition on bytes is the same.
+-- SHAKE128 and SHAKE256 as FIPS 202 states them, on strings of bits; each entry of a list is 0 or 1. `shake128-bits` and
+-- `shake256-bits` of proofs/Shake.antt show that the definitions on bytes are the same.
 use mathlib.Core.List.{List, [], _∷_, _++_}
 use Prim.Native.Nat.{ℕ, zero, suc, _+_, _*_, _/_, _%_, _-_}
 use lib.ListN.{length, getD, take, drop}
@@ -51,6 +51,10 @@ unfoldable pub spongeBits : ℕ → List ℕ → ℕ → List ℕ
 spongeBits r m d =
     let p : List ℕ = m ++ pad101 r (length m) in
     take d (squeezedBits r (d / r + 1) (absorbedBits r (length p / r) p))
+
+-- Section 6.2: SHAKE128(M, d) is Keccak[256](M || 1111, d)
+unfoldable pub shake128Bits : List ℕ → ℕ → List ℕ
+shake128Bits m d = spongeBits (1600 - 256) (m ++ (1 ∷ 1 ∷ 1 ∷ 1 ∷ [])) d
 
 -- Section 6.2: SHAKE256(M, d) is Keccak[512](M || 1111, d)
 unfoldable pub shake256Bits : List ℕ → ℕ → List ℕ

@@ -52,6 +52,17 @@ pub fn word64_at(b: &[u8], at: usize) -> u64
     )
 }
 
+// Copies what is lent to a buffer of the same length.
+pub fn copy(from: &[u8], out: &mut [u8])
+    requires { ⌜ length (now from) ≡ length (now out) ⌝ }
+    ensures { λ _. ⌜ now (out .exit) ≡ now (from .entry) ⌝ }
+{
+    let n = from.len();
+    for i in 0..n {
+        out[i] = from[i];
+    }
+}
+
 // ---- blocks of 16 bytes: entries, bodies and tags
 
 pub fn read_block(bytes: &[u8]) -> [u8; BLOCK_LENGTH]
@@ -59,9 +70,7 @@ pub fn read_block(bytes: &[u8]) -> [u8; BLOCK_LENGTH]
     ensures { λ b. ⌜ b ≡ now (bytes .entry) ⌝ }
 {
     let mut b = [0u8; BLOCK_LENGTH];
-    for i in 0..BLOCK_LENGTH {
-        b[i] = bytes[i];
-    }
+    copy(bytes, &mut b);
     b
 }
 
@@ -69,7 +78,5 @@ pub fn write_block(b: [u8; BLOCK_LENGTH], out: &mut [u8])
     requires { ⌜ length (now out) ≡ 16 ⌝ }
     ensures { λ _. ⌜ now (out .exit) ≡ b ⌝ }
 {
-    for i in 0..BLOCK_LENGTH {
-        out[i] = b[i];
-    }
+    copy(&b, out);
 }

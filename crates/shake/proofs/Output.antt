@@ -14,7 +14,7 @@ use Rattle.keccak_steps.specs.Steps.{State}
 use Rattle.state_to_string.specs.Bytes.{byteOf, bytesOf}
 use Rattle.state_to_string.proofs.LaneBytes.{take-bytes}
 use Rattle.shake.specs.Sponge.{Rate, permuted, squeezed, absorb, squeeze}
-use Rattle.shake.specs.Shake.{padded, shake, shake256}
+use Rattle.shake.specs.Shake.{padded, shake, shake128, shake256}
 
 -- byte i of all that is squeezed out of s
 abbrev pub byteAt : ℕ → State → ℕ → ℕ
@@ -78,6 +78,19 @@ module _ (r : ℕ) (rate : Rate r) (m : List ℕ) where
   shake-prefix n d h =
       let s : State = absorb r (padded r m) in
       rw (squeeze-table r rate s d, squeeze-table r rate s n) (take-table n d (byteAt r s) h)
+
+-- ---- SHAKE128
+
+pub rate128 : Rate 168
+rate128 = record { lanes = refl; some = omega arith; most = omega arith }
+
+pub length-shake128 : (m : List ℕ) (d : ℕ) → length (shake128 m d) ≡ d
+unfolding shake128
+length-shake128 = length-shake 168 rate128
+
+pub shake128-prefix : (m : List ℕ) (n d : ℕ) → n ≤ d → take n (shake128 m d) ≡ shake128 m n
+unfolding shake128
+shake128-prefix = shake-prefix 168 rate128
 
 -- ---- SHAKE256
 

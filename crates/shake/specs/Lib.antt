@@ -1,3 +1,3 @@
--- The sponge and SHAKE256 of FIPS 202.
+-- The sponge, SHAKE128 and SHAKE256 of FIPS 202.
 pub mod Sponge
 pub mod Shake

@@ -1,4 +1,4 @@
-// SHAKE256 of FIPS 202 over the sponge, whose rate in bytes is a parameter.
+// SHAKE128 and SHAKE256 of FIPS 202 over one sponge, whose rate in bytes is a parameter.
 ghost use mathlib.Core.Path.{_≡_};
 ghost use mathlib.Core.List.{_++_};
 ghost use Prim.Native.Nat.{_/_, _-_, _<_, _≤_};
@@ -6,9 +6,11 @@ ghost use lib.ListN.{length};
 ghost use Rattle.lists.specs.Table.{table, zeros};
 ghost use Rattle.string_to_state.specs.Words.{word};
 ghost use Rattle.shake.specs.Sponge.{Rate, block, absorb, squeeze};
-ghost use Rattle.shake.specs.Shake.{padding, padded, shake256};
+ghost use Rattle.shake.specs.Shake.{padding, padded, shake128, shake256};
 
-// The rate of SHAKE256: 1,088 bits.
+// The rates: 1,344 and 1,088 bits.
+const SHAKE128_RATE: usize = 168;
+
 const SHAKE256_RATE: usize = 136;
 
 // The bytes of t, and zeros up to 200.
@@ -89,7 +91,15 @@ fn squeeze(rate: usize, s: [[u64; 5]; 5], out: &mut [u8])
     state_to_string::put_bytes(s, &mut out[at..]);
 }
 
-// SHAKE256: fills `out`, of any length, from a message of any length.
+// SHAKE128: fills `out`, of any length, from a message of any length.
+pub fn shake128(input: &[u8], out: &mut [u8])
+    ensures { λ _. ⌜ now (out .exit) ≡ shake128 (now (input .entry)) (length (now (out .entry))) ⌝ }
+{
+    let s = absorb(SHAKE128_RATE, input);
+    squeeze(SHAKE128_RATE, s, out);
+}
+
+// SHAKE256: the same with the other rate.
 pub fn shake256(input: &[u8], out: &mut [u8])
     ensures { λ _. ⌜ now (out .exit) ≡ shake256 (now (input .entry)) (length (now (out .entry))) ⌝ }
 {

@@ -1,0 +1,21 @@
+use mathlib.Core.Path.{ap, _∙_}
+use borrow.Author.Needs.{needs}
+use Rattle.shake.specs.Shake.{shake, shake128}
+use Rattle.shake.proofs.shake128.Statement.{statement}
+use Rattle.shake.proofs.shake128.Tie as tie
+
+absorb-requires : tie.Need-absorb-requires
+absorb-requires c κs = search needs
+
+squeeze-requires : tie.Need-squeeze-requires
+squeeze-requires c κs = search needs
+
+same-length : tie.Need-same-length
+same-length c = search needs
+
+returns : tie.Need-returns
+unfolding shake128 shake
+returns c = cc
+
+pub shake128-spec : {M : Type 1} → statement M
+shake128-spec = tie.close (tie.spec absorb-requires squeeze-requires same-length returns)
