@@ -1,16 +1,18 @@
 -- What the published formula makes of a ternary triple, with a public record of an accepted key.
 use mathlib.Core.Path.{_≡_, ap, _∙_}
+use mathlib.Core.Bool.{true}
 use mathlib.Core.List.{List}
 use Prim.Native.Nat.{ℕ}
+use lib.ListN.{length}
 use Rattle.exactness.proofs.Elements as E
 use Rattle.ring.specs.Ring.{Element}
 use Rattle.scheme.specs.Scheme.{Triple, setting, masked}
 use Rattle.scheme.proofs.Givens.{givens}
 use Rattle.answers.specs.declared.Answer.the-variants.{Done}
 use Rattle.records.specs.Records.{firstOf, secondOf}
-use Rattle.keys.specs.Keys.{publicAnswer}
+use Rattle.public_keys.specs.PublicKeys.{publicLength?, publicA, publicB, publicAnswer}
 use Rattle.calls.specs.Promises.{Accepted, Ternaries, Encapsulates, PublicOf}
-use Rattle.keys.proofs.KeyLaws.{public-done}
+use Rattle.public_keys.proofs.PublicLaws.{public-done}
 use Rattle.calls.proofs.CheckExact.{accepted-iff}
 
 pub masked-element : (a r e : List ℕ) → Element (masked a r e)
@@ -18,21 +20,20 @@ masked-element = E.masked-element setting givens
 
 module _ {p k : List ℕ} (public : PublicOf p k) where
   -- the public check passes
-  pub public-accepted : Accepted k → publicAnswer p ≡ Done
+  pub public-accepted : Accepted k → (publicLength? (length p) ≡ true) × (publicAnswer p ≡ Done)
   public-accepted accepted =
       let (w, unit, matches) = accepted-iff k .0 accepted in
       public-done p .1 (
         record {
-          has-mark = public .mark;
-          has-version = public .version;
-          first-words = rw (public .same-a) (w .front .first-words);
-          second-words = rw (public .same-b) (w .front .second-words);
+          header = public .header;
+          a-words = rw (public .same-a) (w .front .first-words);
+          b-words = rw (public .same-b) (w .front .second-words);
         },
         rw (public .same-b) unit,
       )
 
   -- the formula with the public record's a and b is that with the key's
-  pub encapsulates : {c1 c2 : List ℕ} (t : Triple) → Ternaries t → c1 ≡ masked (firstOf p) (t .r) (t .e1) → c2 ≡ masked (secondOf p) (t .r) (t .e2)
+  pub encapsulates : {c1 c2 : List ℕ} (t : Triple) → Ternaries t → c1 ≡ masked (publicA p) (t .r) (t .e1) → c2 ≡ masked (publicB p) (t .r) (t .e2)
       → Encapsulates (firstOf k) (secondOf k) c1 c2 t
   encapsulates t ternary e1 e2 = (
     ternary,

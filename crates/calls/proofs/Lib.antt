@@ -7,9 +7,12 @@ pub mod Outcomes
 pub mod DecapsulateExact
 pub mod OpenExact
 pub mod Promised
--- When 6 is said, and what refusals leave.
+-- When 6 and 8 are said, and what refusals leave.
 pub mod NotInvertible
+pub mod StreamExhausted
 pub mod Untouched
+-- Equal a and b.
+pub mod SameElements
 -- Records already made, and round trips.
 pub mod Encapsulations
 pub mod BareEncapsulations

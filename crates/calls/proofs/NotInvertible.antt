@@ -1,7 +1,7 @@
 -- When 6 is said.
 use mathlib.Core.Path.{_≡_}
 use mathlib.Core.Bool.{Bool, true}
-use mathlib.Core.Logic.{_↔_, Iff·trans, Iff·and}
+use mathlib.Core.Logic.{_↔_, Iff·rfl, Iff·trans}
 use mathlib.Core.List.{List}
 use Prim.Native.Nat.{ℕ}
 use native.Mathlib.Omega.{arith}
@@ -14,24 +14,27 @@ use Rattle.answers.specs.declared.Refusal.the-variants.{WrongLength, TagMismatc
 use Rattle.answers.specs.declared.Answer.{Answer}
 use Rattle.answers.specs.Answers.{number, unless, andThen}
 use Rattle.records.specs.Records.{firstOf, secondOf, codesPart, bodyPart, tagPart, c1Of, c2Of}
-use Rattle.keys.specs.Keys.{elementsOf, publicAnswer, secretAnswer, noiseTriple}
-use Rattle.calls.specs.Calls.{checkAnswer, keygenAnswer, outcome, outcomeAnswer, openedAnswer}
+use Rattle.seeds.specs.Seeds.{seedStream}
+use Rattle.public_keys.specs.PublicKeys.{publicAnswer}
+use Rattle.keys.specs.Keys.{elementsOf, secretAnswer, noiseTriple}
+use Rattle.calls.specs.Calls.{checkAnswer, keygenAnswer, seededKeygenAnswer, outcome, outcomeAnswer, openedAnswer}
 use Rattle.records.specs.Layout.{sealedEntryMark, secretKeyMark}
 use Rattle.triples.specs.Triple.{tripleOf}
 use Rattle.calls.specs.Calls.{encapsulateAnswer, decapsulateAnswer, sealAnswer, openAnswer}
 use Rattle.records.specs.WellFormed.{WellFormedFront, WellFormedKey}
 use Rattle.calls.specs.Promises.{NotInvertibleExact}
-use Rattle.answers.proofs.AnswerLaws.{Never, unless-never, done-never, then-never, unless-says, then-refuses}
+use Rattle.answers.proofs.AnswerLaws.{Never, unless-never, done-never, then-never, then-refuses}
 use Rattle.records.proofs.RecordLaws.{record-never, encapsulation-never}
 use Rattle.triples.proofs.TripleLaws.{triple-never}
-use Rattle.calls.proofs.Lengths.{one-fits, keygen-fits, encapsulate-fits, decapsulate-fits, seal-fits, open-fits}
-use Rattle.keys.proofs.KeyLaws.{generated-refused, public-refused, secret-refused}
+use Rattle.calls.proofs.Lengths.{one-fits, keygen-fits, seeded-keygen-fits, encapsulate-fits, decapsulate-fits, seal-fits, open-fits, says-after-lengths, of-encapsulate, of-seal}
+use Rattle.public_keys.proofs.PublicLaws.{public-refused}
+use Rattle.keys.proofs.KeyLaws.{generated-refused, secret-refused}
 
 -- ---- what stands before and behind the check of a key
 
--- the lengths: 1 is no 6
+-- 1 is no 6
 six-after-lengths : {fit : Bool} {F G : Type 0} (a : Answer) → (fit ≡ true) ↔ F → (number a ≡ 6) ↔ G → (number (unless fit WrongLength a) ≡ 6) ↔ (F × G)
-six-after-lengths {fit} a f g = Iff·trans (unless-says 6 fit WrongLength a (λ e. omega arith)) (Iff·and f g)
+six-after-lengths a = says-after-lengths 6 a (omega arith)
 
 -- 9 and 10 are no 6
 outcome-never : (o : Outcome) → Never 6 (outcomeAnswer o)
@@ -57,18 +60,19 @@ opening k = (
   λ (w, h1, h2, h3, none). ((w .size, h1, h2, h3), (w .front, w .codes, none)),
 )
 
+-- key generation: the stream suffices, and there is no inverse
+generating : {F M : Type 0} → {H1 H2 H3 H4 H5 : Type 0} → ((H1 × H2 × H3 × H4 × H5) × (F × M)) ↔ (H1 × H2 × H3 × H4 × H5 × F × M)
+generating = (λ ((h1, h2, h3, h4, h5), (full, none)). (h1, h2, h3, h4, h5, full, none), λ (h1, h2, h3, h4, h5, full, none). ((h1, h2, h3, h4, h5), (full, none)))
+
 pub not-invertible-exact : NotInvertibleExact
-unfolding keygenAnswer checkAnswer encapsulateAnswer decapsulateAnswer sealAnswer openAnswer
+unfolding keygenAnswer seededKeygenAnswer checkAnswer encapsulateAnswer decapsulateAnswer sealAnswer openAnswer
 not-invertible-exact = record {
-  public-key = public-refused;
+  public-key = λ k size. (λ says. public-refused k .0 (size, says), λ h. public-refused k .1 h .1);
   secret-key = secret-refused;
   keygen = λ stream s e public secret.
-      Iff·trans
-      (six-after-lengths _ (keygen-fits stream s e public secret)
-      (generated-refused stream s e)) (
-        λ ((h1, h2, h3, h4, h5), (full, none)). (h1, h2, h3, h4, h5, full, none),
-        λ (h1, h2, h3, h4, h5, full, none). ((h1, h2, h3, h4, h5), (full, none)),
-      );
+      Iff·trans (six-after-lengths _ (keygen-fits stream s e public secret) (generated-refused stream s e)) generating;
+  seeded-keygen = λ seed s e public secret.
+      Iff·trans (six-after-lengths _ (seeded-keygen-fits seed s e public secret) (generated-refused (seedStream seed) s e)) generating;
   check = λ k.
       Iff·trans (six-after-lengths (secretAnswer k) (one-fits (length k) 4357) (secret-refused k)) (
         λ (size, (front, codes, none)). (record { size = size; front = front; codes = codes }, none),
@@ -77,10 +81,8 @@ not-invertible-exact = record {
   encapsulate = λ k t room.
       Iff·trans
       (six-after-lengths _ (encapsulate-fits k t room)
-      (by-key (publicAnswer k) (triple-never (omega arith) t) (public-refused k))) (
-        λ ((size, h1, h2), (front, none)). (record { size = size; front = front }, h1, h2, none),
-        λ (w, h1, h2, none). ((w .size, h1, h2), (w .front, none)),
-      );
+      (by-key (publicAnswer k) (triple-never (omega arith) t) Iff·rfl))
+      (of-encapsulate (public-refused k));
   decapsulate = λ k c d room.
       Iff·trans
       (six-after-lengths _ (decapsulate-fits k c d room)
@@ -90,10 +92,7 @@ not-invertible-exact = record {
       (secret-refused k)))
       (opening k);
   seal = λ k noise entry room.
-      Iff·trans (six-after-lengths (publicAnswer k) (seal-fits k noise entry room) (public-refused k)) (
-        λ ((size, h1, h2, h3), (front, none)). (record { size = size; front = front }, h1, h2, h3, none),
-        λ (w, h1, h2, h3, none). ((w .size, h1, h2, h3), (w .front, none)),
-      );
+      Iff·trans (six-after-lengths (publicAnswer k) (seal-fits k noise entry room) Iff·rfl) (of-seal (public-refused k));
   open-entry = λ k e noise room.
       Iff·trans
       (six-after-lengths _ (open-fits k e noise room)

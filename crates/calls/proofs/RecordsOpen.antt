@@ -8,9 +8,10 @@ use Rattle.gf128.specs.Bytes.{Block}
 use Rattle.derivation.specs.Derivation.{tagOf, entryOf}
 use Rattle.answers.specs.Answers.{number}
 use Rattle.records.specs.Layout.{tripleLength, blockLength}
-use Rattle.records.specs.Records.{firstOf, secondOf, bodyPart}
+use Rattle.records.specs.Records.{bodyPart}
 use Rattle.triples.specs.Triple.{tripleBytes}
 use Rattle.triples.specs.WellFormed.{WellFormedTriple}
+use Rattle.public_keys.specs.PublicKeys.{publicA, publicB}
 use Rattle.keys.specs.Keys.{tripleNoiseLength}
 use Rattle.calls.specs.Calls.{encapsulatedWith, decapsulateAnswer, decapsulateOut, sealedWith, openAnswer, openOut}
 use Rattle.calls.specs.Promises.{Accepted, Ternaries, PublicOf, RecordsOpen}
@@ -23,10 +24,10 @@ use Rattle.calls.proofs.SealedEntries.{sealed-first, sealed-second, sea
 
 module _ {k p : List ℕ} (accepted : Accepted k) (public : PublicOf p k) (t : Triple) (ternary : Ternaries t) where
   abbrev a : List ℕ
-  a = firstOf p
+  a = publicA p
 
   abbrev b : List ℕ
-  b = secondOf p
+  b = publicB p
 
   -- ---- a sealed entry
 

@@ -7,9 +7,9 @@ use Rattle.gf128.specs.Bytes.{Block}
 use Rattle.answers.specs.declared.Answer.the-variants.{Done}
 use Rattle.answers.specs.Answers.{number}
 use Rattle.records.specs.Layout.{sealedEntryLength, encapsulationLength, tripleLength, blockLength}
-use Rattle.records.specs.Records.{firstOf, secondOf}
 use Rattle.triples.specs.Triple.{tripleOf}
 use Rattle.triples.specs.WellFormed.{WellFormedTriple}
+use Rattle.public_keys.specs.PublicKeys.{publicA, publicB}
 use Rattle.keys.specs.Keys.{tripleNoiseLength, noiseTriple}
 use Rattle.calls.specs.Calls.{encapsulateAnswer, encapsulatedWith, encapsulateOut, decapsulateAnswer, decapsulateOut}
 use Rattle.calls.specs.Calls.{sealAnswer, sealedWith, sealedBytes, sealOut, openAnswer, openOut}
@@ -21,15 +21,17 @@ use Rattle.calls.proofs.WhenDone.{encapsulate-done, seal-done}
 use Rattle.calls.proofs.Outcomes.{coded-ternary, noise-ternary}
 use Rattle.calls.proofs.Encapsulations.{public-accepted}
 use Rattle.calls.proofs.RecordsOpen.{sealed-opens, encapsulated-opens}
-use Rattle.calls.proofs.GeneratedKeys.{generated}
+use Rattle.calls.proofs.GeneratedKeys.{generated, seeded-generated}
 
 -- ---- seal, then open
 
 module _ (k p noise entry : List ℕ) (accepted : Accepted k) (public : PublicOf p k) (noise-size : length noise ≡ tripleNoiseLength) (block : Block entry) where
   seals : (room : ℕ) → room ≡ sealedEntryLength → sealAnswer p noise entry room ≡ Done
-  seals room h = seal-done p noise entry room .1 ((public .size, noise-size, block .size, h), public-accepted public accepted)
+  seals room h =
+      let (size, checked) = public-accepted public accepted in
+      seal-done p noise entry room .1 ((size, noise-size, block .size, h), checked)
 
-  seal-writes : (sealed : List ℕ) → length sealed ≡ sealedEntryLength → sealOut p noise entry sealed ≡ sealedWith (firstOf p) (secondOf p) (noiseTriple noise) entry
+  seal-writes : (sealed : List ℕ) → length sealed ≡ sealedEntryLength → sealOut p noise entry sealed ≡ sealedWith (publicA p) (publicB p) (noiseTriple noise) entry
   unfolding sealOut sealedBytes
   seal-writes sealed h = on-done _ sealed (seals (length sealed) h)
 
@@ -46,10 +48,10 @@ module _ (k p noise entry : List ℕ) (accepted : Accepted k) (public : PublicOf
 module _ (k p t : List ℕ) (accepted : Accepted k) (public : PublicOf p k) (wt : WellFormedTriple t) where
   encapsulates-done : (room : ℕ) → room ≡ encapsulationLength → encapsulateAnswer p t room ≡ Done
   encapsulates-done room h =
-      encapsulate-done p t room .1
-      ((public .size, wt .size, h), (public-accepted public accepted, triple-done t .1 (wt .r-codes, wt .e1-codes, wt .e2-codes)))
+      let (size, checked) = public-accepted public accepted in
+      encapsulate-done p t room .1 ((size, wt .size, h), (checked, triple-done t .1 (wt .r-codes, wt .e1-codes, wt .e2-codes)))
 
-  encapsulate-writes : (c : List ℕ) → length c ≡ encapsulationLength → encapsulateOut p t c ≡ encapsulatedWith (firstOf p) (secondOf p) (tripleOf t)
+  encapsulate-writes : (c : List ℕ) → length c ≡ encapsulationLength → encapsulateOut p t c ≡ encapsulatedWith (publicA p) (publicB p) (tripleOf t)
   unfolding encapsulateOut
   encapsulate-writes c h = on-done _ c (encapsulates-done (length c) h)
 
@@ -67,4 +69,5 @@ round-trips = record {
       seal-then-open k p noise entry accepted public noise-size (record { size = size; small = bytes }) sealed dummy out sealed-size dummy-size room;
   encapsulated = λ k p t c dummy out accepted public wt bytes size wd room. encapsulate-then-decapsulate k p t accepted public wt c dummy out bytes size wd room;
   generated = generated;
+  seeded-generated = seeded-generated;
 }

@@ -13,13 +13,15 @@ use Rattle.answers.specs.declared.Answer.the-variants.{Done}
 use Rattle.answers.specs.Answers.{unless}
 use Rattle.records.specs.Records.{firstOf, secondOf, bodyPart, tagPart, recordAnswer, c1Of, c2Of, encapsulationAnswer}
 use Rattle.triples.specs.Triple.{tripleAnswer}
-use Rattle.keys.specs.Keys.{elementsOf, publicAnswer, secretAnswer, keygenB, noiseTriple}
-use Rattle.calls.specs.Calls.{checkAnswer, keygenAnswer, outcome, outcomeAnswer, openedAnswer}
+use Rattle.seeds.specs.Seeds.{seedStream}
+use Rattle.public_keys.specs.PublicKeys.{publicLength?, publicAnswer}
+use Rattle.keys.specs.Keys.{elementsOf, secretAnswer, keygenB, noiseTriple}
+use Rattle.calls.specs.Calls.{checkAnswer, keygenAnswer, seededKeygenAnswer, outcome, outcomeAnswer, openedAnswer}
 use Rattle.records.specs.Layout.{sealedEntryMark}
 use Rattle.triples.specs.Triple.{tripleOf}
 use Rattle.calls.specs.Calls.{encapsulateAnswer, decapsulateAnswer, sealAnswer, openAnswer}
 use Rattle.answers.proofs.AnswerLaws.{unless-done, then-done}
-use Rattle.calls.proofs.Lengths.{one-fits, keygen-fits, encapsulate-fits, decapsulate-fits, seal-fits, open-fits}
+use Rattle.calls.proofs.Lengths.{one-fits, keygen-fits, seeded-keygen-fits, encapsulate-fits, decapsulate-fits, seal-fits, open-fits}
 use Rattle.keys.proofs.KeyLaws.{generated-done}
 
 -- the lengths fit, and what follows is Done
@@ -39,9 +41,18 @@ keygen-done stream s e public secret =
     done-after-lengths _ (keygen-fits stream s e public secret)
     (generated-done stream s e)
 
+pub seeded-keygen-done : (seed s e : List ℕ) (public secret : ℕ)
+    → (seededKeygenAnswer seed s e public secret ≡ Done)
+    ↔ (((length seed ≡ 32) × (length s ≡ 512) × (length e ≡ 512) × (public ≡ 2085) × (secret ≡ 4357))
+    × ((length (taken (seedStream seed)) ≡ 1024) × Invertible (keygenB (seedStream seed) s e)))
+unfolding seededKeygenAnswer
+seeded-keygen-done seed s e public secret =
+    done-after-lengths _ (seeded-keygen-fits seed s e public secret)
+    (generated-done (seedStream seed) s e)
+
 pub encapsulate-done : (k t : List ℕ) (room : ℕ)
     → (encapsulateAnswer k t room ≡ Done)
-    ↔ (((length k ≡ 4101) × (length t ≡ 768) × (room ≡ 4096)) × ((publicAnswer k ≡ Done) × (tripleAnswer t ≡ Done)))
+    ↔ (((publicLength? (length k) ≡ true) × (length t ≡ 768) × (room ≡ 4096)) × ((publicAnswer k ≡ Done) × (tripleAnswer t ≡ Done)))
 unfolding encapsulateAnswer
 encapsulate-done k t room = done-after-lengths _ (encapsulate-fits k t room) (then-done (publicAnswer k) (tripleAnswer t))
 
@@ -61,7 +72,7 @@ decapsulate-done k c d room =
 
 pub seal-done : (k noise entry : List ℕ) (room : ℕ)
     → (sealAnswer k noise entry room ≡ Done)
-    ↔ (((length k ≡ 4101) × (length noise ≡ 1536) × (length entry ≡ 16) × (room ≡ 4133)) × (publicAnswer k ≡ Done))
+    ↔ (((publicLength? (length k) ≡ true) × (length noise ≡ 1536) × (length entry ≡ 16) × (room ≡ 4133)) × (publicAnswer k ≡ Done))
 unfolding sealAnswer
 seal-done k noise entry room = done-after-lengths (publicAnswer k) (seal-fits k noise entry room) Iff·rfl
 

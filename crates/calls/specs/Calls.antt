@@ -1,5 +1,5 @@
 -- What each public call answers and what its lent outputs hold afterwards, over the lent bytes (document 01, "Bytes" and "What the desk
--- says"). Every definition holds for buffers of all lengths. Under any answer but Done an output is as it came. `room`, and `public` and
+-- says"; document 02, No. 2). Every definition holds for buffers of all lengths. Under any answer but Done an output is as it came. `room`, and `public` and
 -- `secret` where they are numbers, are the lengths of outputs.
 use mathlib.Core.Bool.{_&&_}
 use mathlib.Core.List.{List}
@@ -16,11 +16,13 @@ use Rattle.answers.specs.declared.Refusal.the-variants as Refusal
 use Rattle.answers.specs.declared.Answer.{Answer}
 use Rattle.answers.specs.declared.Answer.the-variants.{Done, Refused}
 use Rattle.answers.specs.Answers.{unless, andThen, onDone}
-use Rattle.records.specs.Layout.{sealedEntryMark, publicKeyLength, secretKeyLength, sealedEntryLength, encapsulationLength, tripleLength, blockLength}
-use Rattle.records.specs.Records.{firstOf, secondOf, bodyPart, tagPart, recordAnswer, publicKeyBytes, secretKeyBytes, sealedEntryBytes}
+use Rattle.records.specs.Layout.{sealedEntryMark, publicKeyLength, seedLength, seededKeyLength, secretKeyLength, sealedEntryLength, encapsulationLength, tripleLength, blockLength}
+use Rattle.records.specs.Records.{firstOf, secondOf, bodyPart, tagPart, recordAnswer, publicKeyBytes, secretKeyBytes, seededKeyBytes, sealedEntryBytes}
 use Rattle.records.specs.Records.{c1Of, c2Of, encapsulationAnswer, encapsulationBytes}
 use Rattle.triples.specs.Triple.{tripleOf, tripleAnswer, tripleBytes}
-use Rattle.keys.specs.Keys.{publicAnswer, secretAnswer, KeyElements, elementsOf, keygenB, generatedAnswer, tripleNoiseLength, noiseTriple}
+use Rattle.seeds.specs.Seeds.{seedStream}
+use Rattle.public_keys.specs.PublicKeys.{publicLength?, publicA, publicB, publicAnswer}
+use Rattle.keys.specs.Keys.{secretAnswer, KeyElements, elementsOf, keygenB, generatedAnswer, tripleNoiseLength, noiseTriple}
 
 -- ---- check_secret_key
 
@@ -48,11 +50,30 @@ keygenPublic stream s e public secret = onDone (keygenAnswer stream s e (length 
 unfoldable pub keygenSecret : (stream s e public secret : List ℕ) → List ℕ
 keygenSecret stream s e public secret = onDone (keygenAnswer stream s e (length public) (length secret)) (newSecretKey stream s e) secret
 
--- ---- encapsulate, with the triple t
+-- ---- keygen from a seed (document 02, No. 2), and the noise of s and of e: as from the stream of the seed, which the public key holds in
+-- place of a
+
+unfoldable pub seededKeygenAnswer : (seed s e : List ℕ) (public secret : ℕ) → Answer
+seededKeygenAnswer seed s e public secret =
+    unless
+    (eqb (length seed) seedLength && eqb (length s) noiseLength && eqb (length e) noiseLength && eqb public seededKeyLength && eqb secret secretKeyLength)
+    Refusal.WrongLength (generatedAnswer (seedStream seed) s e)
+
+unfoldable pub newSeededKey : (seed s e : List ℕ) → List ℕ
+newSeededKey seed s e = seededKeyBytes seed (keygenB (seedStream seed) s e)
+
+unfoldable pub seededKeygenPublic : (seed s e public secret : List ℕ) → List ℕ
+seededKeygenPublic seed s e public secret = onDone (seededKeygenAnswer seed s e (length public) (length secret)) (newSeededKey seed s e) public
+
+unfoldable pub seededKeygenSecret : (seed s e public secret : List ℕ) → List ℕ
+seededKeygenSecret seed s e public secret =
+    onDone (seededKeygenAnswer seed s e (length public) (length secret)) (newSecretKey (seedStream seed) s e) secret
+
+-- ---- encapsulate, with the triple t; the key is a public record of either kind
 
 unfoldable pub encapsulateAnswer : (key triple : List ℕ) (room : ℕ) → Answer
 encapsulateAnswer k t room =
-    unless (eqb (length k) publicKeyLength && eqb (length t) tripleLength && eqb room encapsulationLength) Refusal.WrongLength
+    unless (publicLength? (length k) && eqb (length t) tripleLength && eqb room encapsulationLength) Refusal.WrongLength
     (andThen (publicAnswer k) (tripleAnswer t))
 
 -- c1 = a × r + e1 and c2 = b × r + e2
@@ -60,7 +81,7 @@ unfoldable pub encapsulatedWith : (a b : List ℕ) (t : Triple) → List ℕ
 encapsulatedWith a b t = encapsulationBytes (masked a (t .r) (t .e1)) (masked b (t .r) (t .e2))
 
 unfoldable pub encapsulateOut : (key triple out : List ℕ) → List ℕ
-encapsulateOut k t out = onDone (encapsulateAnswer k t (length out)) (encapsulatedWith (firstOf k) (secondOf k) (tripleOf t)) out
+encapsulateOut k t out = onDone (encapsulateAnswer k t (length out)) (encapsulatedWith (publicA k) (publicB k) (tripleOf t)) out
 
 -- ---- decapsulate the encapsulation c with the dummy triple d
 
@@ -90,11 +111,11 @@ decapsulateAnswer k c d room =
 unfoldable pub decapsulateOut : (key encapsulation dummy out : List ℕ) → List ℕ
 decapsulateOut k c d out = onDone (decapsulateAnswer k c d (length out)) (outcomeBytes (outcome (elementsOf k) (tripleOf d) (c1Of c) (c2Of c))) out
 
--- ---- seal an entry
+-- ---- seal an entry; the key is a public record of either kind
 
 unfoldable pub sealAnswer : (key noise entry : List ℕ) (room : ℕ) → Answer
 sealAnswer k noise entry room =
-    unless (eqb (length k) publicKeyLength && eqb (length noise) tripleNoiseLength && eqb (length entry) blockLength && eqb room sealedEntryLength)
+    unless (publicLength? (length k) && eqb (length noise) tripleNoiseLength && eqb (length entry) blockLength && eqb room sealedEntryLength)
     Refusal.WrongLength (publicAnswer k)
 
 -- c1, c2, body and tag, by a triple
@@ -104,7 +125,7 @@ sealedWith a b t entry =
     (tagOf (t .r) (t .e1) (t .e2) (bodyOf (t .r) (t .e1) (t .e2) entry))
 
 unfoldable pub sealedBytes : (key noise entry : List ℕ) → List ℕ
-sealedBytes k noise entry = sealedWith (firstOf k) (secondOf k) (noiseTriple noise) entry
+sealedBytes k noise entry = sealedWith (publicA k) (publicB k) (noiseTriple noise) entry
 
 unfoldable pub sealOut : (key noise entry out : List ℕ) → List ℕ
 sealOut k noise entry out = onDone (sealAnswer k noise entry (length out)) (sealedBytes k noise entry) out

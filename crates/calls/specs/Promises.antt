@@ -1,5 +1,5 @@
--- Demand 3: the key check and both openings answer by whether a triple exists, whatever dummy is mixed in. Then when 6 is said, untouched
--- outputs, that records already made open, and round trips.
+-- Demand 3: the key check and both openings answer by whether a triple exists, whatever dummy is mixed in. Then when 6 and 8 are
+-- said, untouched outputs, that equal a and b are sealed for alike, that records already made open, and round trips.
 use mathlib.Core.Path.{_≡_}
 use mathlib.Core.Bool.{true}
 use mathlib.Core.List.{List}
@@ -10,18 +10,20 @@ use Rattle.exactness.specs.Scheme as Any
 use Rattle.ring.specs.Ring.{n, Invertible}
 use Rattle.scheme.specs.Scheme.{Triple, setting}
 use Rattle.encoding.specs.Codes.{firstInvalidCode}
-use Rattle.encoding.specs.Header.{hasMark, versionOf}
 use Rattle.sampling.specs.Noise.{noiseLength}
 use Rattle.sampling.specs.Stream.{streamLength, taken}
 use Rattle.triples.specs.Triple.{tripleBytes}
 use Rattle.derivation.specs.Derivation.{tagOf, entryOf}
 use Rattle.answers.specs.Answers.{number}
-use Rattle.records.specs.Layout.{publicKeyMark, secretKeyMark, publicKeyLength, secretKeyLength, sealedEntryLength, encapsulationLength, tripleLength, blockLength}
+use Rattle.records.specs.Layout.{secretKeyMark, publicKeyLength, seedLength, seededKeyLength, secretKeyLength, sealedEntryLength, encapsulationLength, tripleLength, blockLength}
 use Rattle.records.specs.Records.{firstOf, secondOf, codesPart, bodyPart, tagPart, c1Of, c2Of}
-use Rattle.records.specs.WellFormed.{WellFormedFront, WellFormedPublicKey, WellFormedKey, WellFormedEntry, WellFormedEncapsulation}
+use Rattle.records.specs.WellFormed.{WellFormedFront, WellFormedSeededKey, WellFormedKey, WellFormedEntry, WellFormedEncapsulation}
 use Rattle.triples.specs.WellFormed.{WellFormedTriple}
-use Rattle.keys.specs.Keys.{publicAnswer, secretAnswer, elementsOf, Matches, keygenB, tripleNoiseLength}
-use Rattle.calls.specs.Calls.{checkAnswer, keygenAnswer, keygenPublic, keygenSecret}
+use Rattle.seeds.specs.Seeds.{seedStream}
+use Rattle.public_keys.specs.PublicKeys.{publicLength?, publicA, publicB, publicAnswer}
+use Rattle.public_keys.specs.WellFormed.{SeedFills, PublicHeader, PublicRecord}
+use Rattle.keys.specs.Keys.{secretAnswer, elementsOf, Matches, keygenB, tripleNoiseLength}
+use Rattle.calls.specs.Calls.{checkAnswer, keygenAnswer, keygenPublic, keygenSecret, seededKeygenAnswer, seededKeygenPublic, seededKeygenSecret}
 use Rattle.calls.specs.Calls.{encapsulateAnswer, encapsulatedWith, encapsulateOut, decapsulateAnswer, decapsulateOut}
 use Rattle.calls.specs.Calls.{sealAnswer, sealedWith, sealOut, openAnswer, openOut}
 
@@ -92,8 +94,9 @@ OpenExact k sealed noise before said after =
 
 -- 6 is said exactly when every length fits, the checks before it pass, and b has no inverse
 pub record NotInvertibleExact : Type 0 where
-  -- of the two keys, whatever their lengths
-  pub public-key : (k : List ℕ) → (number (publicAnswer k) ≡ 6) ↔ (WellFormedFront publicKeyMark 1 k × ¬ (Invertible (secondOf k)))
+  -- of a public key with one of the two lengths
+  pub public-key : (k : List ℕ) → publicLength? (length k) ≡ true → (number (publicAnswer k) ≡ 6) ↔ (PublicRecord k × ¬ (Invertible (publicB k)))
+  -- of a secret key, whatever its length
   pub secret-key : (k : List ℕ)
       → (number (secretAnswer k) ≡ 6) ↔ (WellFormedFront secretKeyMark 1 k × (firstInvalidCode (codesPart k) ≡ n) × ¬ (Invertible (secondOf k)))
   -- in each call; `room` is the length of the output
@@ -106,19 +109,55 @@ pub record NotInvertibleExact : Type 0 where
       × (secret ≡ secretKeyLength)
       × (length (taken stream) ≡ n)
       × ¬ (Invertible (keygenB stream s e)))
+  pub seeded-keygen : (seed s e : List ℕ) (public secret : ℕ)
+      → (number (seededKeygenAnswer seed s e public secret) ≡ 6)
+      ↔ ((length seed ≡ seedLength)
+      × (length s ≡ noiseLength)
+      × (length e ≡ noiseLength)
+      × (public ≡ seededKeyLength)
+      × (secret ≡ secretKeyLength)
+      × (length (taken (seedStream seed)) ≡ n)
+      × ¬ (Invertible (keygenB (seedStream seed) s e)))
   pub check : (k : List ℕ) → (number (checkAnswer k) ≡ 6) ↔ (WellFormedKey k × ¬ (Invertible (secondOf k)))
   pub encapsulate : (k t : List ℕ) (room : ℕ)
       → (number (encapsulateAnswer k t room) ≡ 6)
-      ↔ (WellFormedPublicKey k × (length t ≡ tripleLength) × (room ≡ encapsulationLength) × ¬ (Invertible (secondOf k)))
+      ↔ (PublicRecord k × (length t ≡ tripleLength) × (room ≡ encapsulationLength) × ¬ (Invertible (publicB k)))
   pub decapsulate : (k c d : List ℕ) (room : ℕ)
       → (number (decapsulateAnswer k c d room) ≡ 6)
       ↔ (WellFormedKey k × (length c ≡ encapsulationLength) × (length d ≡ tripleLength) × (room ≡ tripleLength) × ¬ (Invertible (secondOf k)))
   pub seal : (k noise entry : List ℕ) (room : ℕ)
       → (number (sealAnswer k noise entry room) ≡ 6)
-      ↔ (WellFormedPublicKey k × (length noise ≡ tripleNoiseLength) × (length entry ≡ blockLength) × (room ≡ sealedEntryLength) × ¬ (Invertible (secondOf k)))
+      ↔ (PublicRecord k × (length noise ≡ tripleNoiseLength) × (length entry ≡ blockLength) × (room ≡ sealedEntryLength) × ¬ (Invertible (publicB k)))
   pub open-entry : (k sealed noise : List ℕ) (room : ℕ)
       → (number (openAnswer k sealed noise room) ≡ 6)
       ↔ (WellFormedKey k × (length sealed ≡ sealedEntryLength) × (length noise ≡ tripleNoiseLength) × (room ≡ blockLength) × ¬ (Invertible (secondOf k)))
+
+-- ---- 8
+
+-- 8 is said exactly when every length fits, the checks before it pass, and the stream has fewer than 1,024 words below q
+pub record StreamExhaustedExact : Type 0 where
+  pub keygen : (stream s e : List ℕ) (public secret : ℕ)
+      → (number (keygenAnswer stream s e public secret) ≡ 8)
+      ↔ ((length stream ≡ streamLength)
+      × (length s ≡ noiseLength)
+      × (length e ≡ noiseLength)
+      × (public ≡ publicKeyLength)
+      × (secret ≡ secretKeyLength)
+      × ¬ (length (taken stream) ≡ n))
+  pub seeded-keygen : (seed s e : List ℕ) (public secret : ℕ)
+      → (number (seededKeygenAnswer seed s e public secret) ≡ 8)
+      ↔ ((length seed ≡ seedLength)
+      × (length s ≡ noiseLength)
+      × (length e ≡ noiseLength)
+      × (public ≡ seededKeyLength)
+      × (secret ≡ secretKeyLength)
+      × ¬ (length (taken (seedStream seed)) ≡ n))
+  pub encapsulate : (k t : List ℕ) (room : ℕ)
+      → (number (encapsulateAnswer k t room) ≡ 8)
+      ↔ (WellFormedSeededKey k × (length t ≡ tripleLength) × (room ≡ encapsulationLength) × ¬ (SeedFills k))
+  pub seal : (k noise entry : List ℕ) (room : ℕ)
+      → (number (sealAnswer k noise entry room) ≡ 8)
+      ↔ (WellFormedSeededKey k × (length noise ≡ tripleNoiseLength) × (length entry ≡ blockLength) × (room ≡ sealedEntryLength) × ¬ (SeedFills k))
 
 -- ---- outputs
 
@@ -126,20 +165,33 @@ pub record NotInvertibleExact : Type 0 where
 pub record Untouched : Type 0 where
   pub keygen : (stream s e public secret : List ℕ) → ¬ (number (keygenAnswer stream s e (length public) (length secret)) ≡ 0)
       → (keygenPublic stream s e public secret ≡ public) × (keygenSecret stream s e public secret ≡ secret)
+  pub seeded-keygen : (seed s e public secret : List ℕ) → ¬ (number (seededKeygenAnswer seed s e (length public) (length secret)) ≡ 0)
+      → (seededKeygenPublic seed s e public secret ≡ public) × (seededKeygenSecret seed s e public secret ≡ secret)
   pub encapsulate : (k t out : List ℕ) → ¬ (number (encapsulateAnswer k t (length out)) ≡ 0) → encapsulateOut k t out ≡ out
   pub decapsulate : (k c d out : List ℕ) → ¬ (number (decapsulateAnswer k c d (length out)) ≡ 0) → decapsulateOut k c d out ≡ out
   pub seal : (k noise entry out : List ℕ) → ¬ (number (sealAnswer k noise entry (length out)) ≡ 0) → sealOut k noise entry out ≡ out
   pub open-entry : (k sealed noise out : List ℕ) → ¬ (number (openAnswer k sealed noise (length out)) ≡ 0) → openOut k sealed noise out ≡ out
 
+-- ---- equal a and b
+
+-- sealing and encapsulation accept a public record
+abbrev pub PublicAccepted : (p : List ℕ) → Type 0
+PublicAccepted p = (publicLength? (length p) ≡ true) × (number (publicAnswer p) ≡ 0)
+
+-- document 02, No. 2: for two accepted records with the same a and b, of whatever kind, the answers are the same, and so are the outputs
+pub record SameElements : Type 0 where
+  pub sealed : (p p′ noise entry out : List ℕ) → PublicAccepted p → PublicAccepted p′ → publicA p ≡ publicA p′ → publicB p ≡ publicB p′
+      → (sealAnswer p noise entry (length out) ≡ sealAnswer p′ noise entry (length out)) × (sealOut p noise entry out ≡ sealOut p′ noise entry out)
+  pub encapsulated : (p p′ t out : List ℕ) → PublicAccepted p → PublicAccepted p′ → publicA p ≡ publicA p′ → publicB p ≡ publicB p′
+      → (encapsulateAnswer p t (length out) ≡ encapsulateAnswer p′ t (length out)) × (encapsulateOut p t out ≡ encapsulateOut p′ t out)
+
 -- ---- records already made
 
--- a public record with the a and b of the secret key k
+-- a public record of either kind with the a and b of the secret key k
 pub record PublicOf (p k : List ℕ) : Type 0 where
-  pub size : length p ≡ publicKeyLength
-  pub mark : hasMark publicKeyMark p ≡ true
-  pub version : versionOf p ≡ 1
-  pub same-a : firstOf p ≡ firstOf k
-  pub same-b : secondOf p ≡ secondOf k
+  pub header : PublicHeader p
+  pub same-a : publicA p ≡ firstOf k
+  pub same-b : publicB p ≡ secondOf k
 
 -- every number is a byte
 abbrev pub Bytes : List ℕ → Type 0
@@ -151,13 +203,13 @@ pub record RecordsOpen : Type 0 where
   -- a sealed entry to its entry
   pub sealed : (k p : List ℕ) (t : Triple) (entry dummy out : List ℕ) → Accepted k → PublicOf p k → Ternaries t
       → length entry ≡ blockLength → Bytes entry → length dummy ≡ tripleNoiseLength → length out ≡ blockLength
-      → (number (openAnswer k (sealedWith (firstOf p) (secondOf p) t entry) dummy (length out)) ≡ 0)
-      × (openOut k (sealedWith (firstOf p) (secondOf p) t entry) dummy out ≡ entry)
+      → (number (openAnswer k (sealedWith (publicA p) (publicB p) t entry) dummy (length out)) ≡ 0)
+      × (openOut k (sealedWith (publicA p) (publicB p) t entry) dummy out ≡ entry)
   -- an encapsulation to its triple
   pub encapsulated : (k p : List ℕ) (t : Triple) (dummy out : List ℕ) → Accepted k → PublicOf p k → Ternaries t
       → WellFormedTriple dummy → length out ≡ tripleLength
-      → (number (decapsulateAnswer k (encapsulatedWith (firstOf p) (secondOf p) t) dummy (length out)) ≡ 0)
-      × (decapsulateOut k (encapsulatedWith (firstOf p) (secondOf p) t) dummy out ≡ tripleBytes (t .r) (t .e1) (t .e2))
+      → (number (decapsulateAnswer k (encapsulatedWith (publicA p) (publicB p) t) dummy (length out)) ≡ 0)
+      × (decapsulateOut k (encapsulatedWith (publicA p) (publicB p) t) dummy out ≡ tripleBytes (t .r) (t .e1) (t .e2))
 
 -- ---- round trips
 
@@ -179,3 +231,8 @@ pub record RoundTrips : Type 0 where
       → Accepted (keygenSecret stream s e public secret)
       × PublicOf (keygenPublic stream s e public secret) (keygenSecret stream s e public secret)
       × (number (publicAnswer (keygenPublic stream s e public secret)) ≡ 0)
+  -- so they do with what key generation from a seed writes under 0
+  pub seeded-generated : (seed s e public secret : List ℕ) → number (seededKeygenAnswer seed s e (length public) (length secret)) ≡ 0
+      → Accepted (seededKeygenSecret seed s e public secret)
+      × PublicOf (seededKeygenPublic seed s e public secret) (seededKeygenSecret seed s e public secret)
+      × (number (publicAnswer (seededKeygenPublic seed s e public secret)) ≡ 0)

@@ -1,4 +1,4 @@
-// The calls that make and check keys. Buffers may have any length; under any answer but Done every output is as it came.
+// The calls that check a secret key and that make keys from a stream. Buffers may have any length; under any answer but Done every output is as it came.
 use answers::Answer;
 use answers::Refusal;
 use ntt::Element;
@@ -44,7 +44,7 @@ fn write_public_key(answer: Answer, a: Element, b: Element, out: &mut [u8])
     }
 }
 
-fn write_secret_key(answer: Answer, a: Element, b: Element, s: Element, out: &mut [u8])
+pub fn write_secret_key(answer: Answer, a: Element, b: Element, s: Element, out: &mut [u8])
     requires { ⌜ length (now out) ≡ secretKeyLength ⌝ }
     ensures { λ _. ⌜ now (out .exit) ≡ onDone answer (secretKeyBytes a b s) (now (out .entry)) ⌝ }
 {

@@ -1,53 +1,27 @@
--- The checks of a key: when they say Done, and when 6.
-use mathlib.Core.Path.{_≡_, refl, sym, _∙_}
-use mathlib.Core.Bool.{Bool, true, false, decide, decide-iff, not-eq-not, true≢false, false≢true}
+-- The checks of a secret key and of key generation: when they say Done, when 6, and when 8.
+use mathlib.Core.Path.{_≡_, refl}
+use mathlib.Core.Bool.{Bool, true, false, true≢false, false≢true}
 use mathlib.Core.Logic.{_↔_, Iff·trans, Iff·and}
 use mathlib.Core.List.{List}
 use Prim.Native.Nat.{ℕ}
 use native.Mathlib.Omega.{arith}
-use lib.Dec.{eqb}
 use lib.ListN.{length}
 use Rattle.ring.specs.Ring.{Invertible}
-use Rattle.ring.specs.Invertible.{invertible?}
 use Rattle.scheme.specs.Answers.{verdict}
 use Rattle.scheme.proofs.Keys.{key-check}
 use Rattle.encoding.specs.Codes.{firstInvalidCode}
 use Rattle.sampling.specs.Stream.{taken}
-use Rattle.answers.specs.declared.Refusal.the-variants as Refusal
 use Rattle.answers.specs.declared.Answer.the-variants.{Done}
-use Rattle.answers.specs.Answers.{number, unless}
-use Rattle.records.specs.Layout.{publicKeyMark, secretKeyMark}
+use Rattle.answers.specs.Answers.{number}
+use Rattle.records.specs.Layout.{secretKeyMark}
 use Rattle.records.specs.Records.{firstOf, secondOf, codesPart, secretOf}
-use Rattle.keys.specs.Keys.{publicAnswer, verdictAnswer, secretAnswer, keygenB, generatedAnswer}
+use Rattle.keys.specs.Keys.{verdictAnswer, secretAnswer, keygenB, generatedAnswer}
 use Rattle.records.specs.WellFormed.{WellFormedFront}
 use Rattle.keys.specs.Keys.{elementsOf, Matches}
-use Rattle.answers.proofs.AnswerLaws.{not-done, unless-done, then-done, then-says, unless-refuses, unless-never, done-never}
-use Rattle.records.proofs.RecordLaws.{equal-done, record-done, codes-done, record-never, codes-never}
-
--- ---- 6, where it is the last check
-
-pub inverse-done : (b : List ℕ) → (unless (decide (invertible? b)) Refusal.NotInvertible Done ≡ Done) ↔ Invertible b
-inverse-done b =
-    Iff·trans (unless-done (decide (invertible? b)) Refusal.NotInvertible Done)
-    (λ (found, e). decide-iff (invertible? b) .0 found, λ unit. (decide-iff (invertible? b) .1 unit, refl))
-
-none-decided : (b : List ℕ) → (decide (invertible? b) ≡ false) ↔ ¬ (Invertible b)
-none-decided b =
-    (λ e unit. false≢true (sym e ∙ decide-iff (invertible? b) .1 unit), λ none. not-eq-not .0 (λ e. none (decide-iff (invertible? b) .0 e)))
-
-pub inverse-refused : (b : List ℕ) → (number (unless (decide (invertible? b)) Refusal.NotInvertible Done) ≡ 6) ↔ ¬ (Invertible b)
-inverse-refused b = Iff·trans (unless-refuses (decide (invertible? b)) Refusal.NotInvertible) (none-decided b)
-
--- ---- public keys
-
-pub public-done : (k : List ℕ) → (publicAnswer k ≡ Done) ↔ (WellFormedFront publicKeyMark 1 k × Invertible (secondOf k))
-unfolding publicAnswer
-public-done k = Iff·trans (then-done _ _) (Iff·and (record-done publicKeyMark 1 k) (inverse-done (secondOf k)))
-
-pub public-refused : (k : List ℕ) → (number (publicAnswer k) ≡ 6) ↔ (WellFormedFront publicKeyMark 1 k × ¬ (Invertible (secondOf k)))
-unfolding publicAnswer
-public-refused k =
-    Iff·trans (then-says _ (record-never (omega arith) publicKeyMark 1 k)) (Iff·and (record-done publicKeyMark 1 k) (inverse-refused (secondOf k)))
+use Rattle.answers.proofs.AnswerLaws.{not-done, then-done, then-says, then-refuses}
+use Rattle.records.proofs.RecordLaws.{record-done, codes-done, record-never, codes-never}
+use Rattle.public_keys.specs.PublicKeys.{streamAnswer}
+use Rattle.public_keys.proofs.PublicLaws.{inverse-done, none-decided, inverse-refused, inverse-never, stream-done, stream-refused, stream-never}
 
 -- ---- secret keys
 
@@ -92,12 +66,14 @@ secret-refused k =
 pub generated-done : (stream s e : List ℕ) → (generatedAnswer stream s e ≡ Done) ↔ ((length (taken stream) ≡ 1024) × Invertible (keygenB stream s e))
 unfolding generatedAnswer
 generated-done stream s e =
-    Iff·trans (then-done _ _) (Iff·and (equal-done (length (taken stream)) 1024 Refusal.StreamExhausted) (inverse-done (keygenB stream s e)))
+    Iff·trans (then-done _ _) (Iff·and (stream-done stream) (inverse-done (keygenB stream s e)))
 
 pub generated-refused : (stream s e : List ℕ)
     → (number (generatedAnswer stream s e) ≡ 6) ↔ ((length (taken stream) ≡ 1024) × ¬ (Invertible (keygenB stream s e)))
 unfolding generatedAnswer
 generated-refused stream s e =
-    let enough = eqb (length (taken stream)) 1024 in
-    Iff·trans (then-says _ (unless-never enough Refusal.StreamExhausted (λ (e : 8 ≡ 6). omega arith) (done-never (omega arith))))
-    (Iff·and (equal-done (length (taken stream)) 1024 Refusal.StreamExhausted) (inverse-refused (keygenB stream s e)))
+    Iff·trans (then-says _ (stream-never stream)) (Iff·and (stream-done stream) (inverse-refused (keygenB stream s e)))
+
+pub generated-exhausted : (stream s e : List ℕ) → (number (generatedAnswer stream s e) ≡ 8) ↔ ¬ (length (taken stream) ≡ 1024)
+unfolding generatedAnswer
+generated-exhausted stream s e = Iff·trans (then-refuses (streamAnswer stream) (omega arith) (inverse-never (keygenB stream s e))) (stream-refused stream)

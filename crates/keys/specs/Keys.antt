@@ -1,30 +1,22 @@
--- What the checks of a key's record answer, what key generation makes, and triples from noise.
-use mathlib.Core.Bool.{decide}
+-- What the checks of a secret key's record answer, what key generation makes, and triples from noise.
 use mathlib.Core.List.{List}
 use Prim.Native.Nat.{ℕ}
-use lib.Dec.{eqb}
-use lib.ListN.{length}
-use Rattle.ring.specs.Ring.{n}
-use Rattle.ring.specs.Invertible.{invertible?}
 use Rattle.exactness.specs.Scheme as Any
 use Rattle.scheme.specs.Scheme.{Triple, setting, keyElement}
 use Rattle.scheme.specs.Answers.{keyCheck}
 use Rattle.scheme.specs.declared.KeyCheck.{KeyCheck}
 use Rattle.scheme.specs.declared.KeyCheck.the-variants.{Sound, NotInvertible, KeyMismatch}
 use Rattle.sampling.specs.Noise.{noiseLength, ternaryNoise}
-use Rattle.sampling.specs.Stream.{taken, uniformElement}
+use Rattle.sampling.specs.Stream.{uniformElement}
 use Rattle.answers.specs.declared.Refusal.the-variants as Refusal
 use Rattle.answers.specs.declared.Answer.{Answer}
 use Rattle.answers.specs.declared.Answer.the-variants.{Done, Refused}
-use Rattle.answers.specs.Answers.{unless, andThen}
-use Rattle.records.specs.Layout.{publicKeyMark, secretKeyMark}
+use Rattle.answers.specs.Answers.{andThen}
+use Rattle.records.specs.Layout.{secretKeyMark}
 use Rattle.records.specs.Records.{part, firstOf, secondOf, codesPart, secretOf, recordAnswer, codesAnswer}
+use Rattle.public_keys.specs.PublicKeys.{streamAnswer, inverseAnswer}
 
--- ---- keys
-
--- 2, 3, 4, 6 of a public key, "PDK"
-unfoldable pub publicAnswer : List ℕ → Answer
-publicAnswer k = andThen (recordAnswer publicKeyMark 1 k) (unless (decide (invertible? (secondOf k))) Refusal.NotInvertible Done)
+-- ---- secret keys
 
 -- 6 and 7
 abbrev pub verdictAnswer : KeyCheck → Answer
@@ -61,9 +53,7 @@ keygenB stream s e = keyElement (uniformElement stream) (ternaryNoise s) (ternar
 
 -- 8, 6
 unfoldable pub generatedAnswer : (stream s e : List ℕ) → Answer
-generatedAnswer stream s e =
-    andThen (unless (eqb (length (taken stream)) n) Refusal.StreamExhausted Done)
-    (unless (decide (invertible? (keygenB stream s e))) Refusal.NotInvertible Done)
+generatedAnswer stream s e = andThen (streamAnswer stream) (inverseAnswer (keygenB stream s e))
 
 -- ---- triples
 

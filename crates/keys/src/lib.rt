@@ -1,4 +1,4 @@
-// Keys and triples read off the bytes that a call was lent: checked in document 01's order, and prepared for the scheme.
+// Secret keys and triples read off the bytes that a call was lent: checked in document 01's order, and prepared for the scheme. New keys.
 // The calls test every length first, so the functions here are lent buffers of the record's length.
 use answers::Answer;
 use answers::Refusal;
@@ -6,7 +6,6 @@ use ntt::DEGREE;
 use ntt::Element;
 use ntt::FACTORS;
 use ntt::Spectrum;
-use records::PUBLIC_KEY_MARK;
 use records::SECRET_KEY_LENGTH;
 use records::SECRET_KEY_MARK;
 use records::THIRD;
@@ -20,39 +19,9 @@ ghost use Rattle.ntt.specs.Factors.{forwardFactors, backwardFactors};
 ghost use Rattle.sampling.specs.Noise.{ternaryNoise};
 ghost use Rattle.sampling.specs.Stream.{uniformElement};
 ghost use Rattle.scheme.specs.Answers as Struct;
-ghost use Rattle.records.specs.Layout.{publicKeyLength, secretKeyLength};
+ghost use Rattle.records.specs.Layout.{secretKeyLength};
 ghost use Rattle.records.specs.Records.{firstOf, secondOf, secretOf};
-ghost use Rattle.keys.specs.Keys.{publicAnswer, verdictAnswer, secretAnswer, generatedAnswer, keygenB, tripleNoiseLength, noiseTriple};
-
-// ---- public keys
-
-// What the checks of a public key answer, and the spectra of a and b.
-pub struct PublicKey {
-    pub answer: Answer,
-    pub a: Spectrum,
-    pub b: Spectrum,
-}
-
-// Of a record with the mark "PDK".
-pub fn read_public_key(bytes: &[u8], forward: &[u16]) -> PublicKey
-    requires { ⌜ (length (now bytes) ≡ publicKeyLength) × (now forward ≡ forwardFactors) ⌝ }
-    ensures { λ k. ⌜ k .answer ≡ publicAnswer (now (bytes .entry)) ⌝ }
-    ensures { λ k. ⌜ (k .a ≡ spectrumOf (firstOf (now (bytes .entry)))) × (k .b ≡ spectrumOf (secondOf (now (bytes .entry)))) ⌝ }
-{
-    let read = records::read_record(bytes, PUBLIC_KEY_MARK, 1);
-    let record = records::front_answer(read);
-    let first = read.first;
-    let second = read.second;
-    let key = scheme::public_key(first, second, forward);
-    let a = key.a;
-    let b = key.b;
-    let invertible = answers::unless(key.invertible, Refusal::NotInvertible);
-    PublicKey {
-        answer: answers::and_then(record, invertible),
-        a,
-        b,
-    }
-}
+ghost use Rattle.keys.specs.Keys.{verdictAnswer, secretAnswer, generatedAnswer, keygenB, tripleNoiseLength, noiseTriple};
 
 // ---- secret keys
 

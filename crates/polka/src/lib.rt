@@ -1,10 +1,11 @@
 // What a console and a desk link: each public call for C. A slice is a pointer and a length, buffers may have any length, and the answer is
-// document 01's number; under any number but 0 every output is as it came. The definitions that the contracts cite stand in crate calls.
+// document 01's number, or document 02's; under any number but 0 every output is as it came. The definitions that the contracts cite stand in crate calls.
 ghost use mathlib.Core.Path.{_≡_};
 ghost use lib.ListN.{length};
-ghost use Rattle.shake.specs.Shake.{shake256};
+ghost use Rattle.shake.specs.Shake.{shake128, shake256};
 ghost use Rattle.answers.specs.Answers.{number};
-ghost use Rattle.calls.specs.Calls.{checkAnswer, keygenAnswer, keygenPublic, keygenSecret, encapsulateAnswer, encapsulateOut};
+ghost use Rattle.calls.specs.Calls.{checkAnswer, keygenAnswer, keygenPublic, keygenSecret, seededKeygenAnswer, seededKeygenPublic, seededKeygenSecret};
+ghost use Rattle.calls.specs.Calls.{encapsulateAnswer, encapsulateOut};
 ghost use Rattle.calls.specs.Calls.{decapsulateAnswer, decapsulateOut, sealAnswer, sealOut, openAnswer, openOut};
 ghost use Rattle.calls.specs.Promises.{CheckExact, DecapsulateExact, OpenExact};
 
@@ -21,6 +22,22 @@ pub extern "C" fn polka_keygen(
     ensures { λ _. ⌜ now (secret .exit) ≡ keygenSecret (now (stream .entry)) (now (s .entry)) (now (e .entry)) (now (public .entry)) (now (secret .entry)) ⌝ }
 {
     let answer = key_calls::keygen(stream, s, e, public, secret);
+    answers::number(answer)
+}
+
+#[no_mangle]
+pub extern "C" fn polka_keygen_from_seed(
+    seed: &[u8],
+    s: &[u8],
+    e: &[u8],
+    public: &mut [u8],
+    secret: &mut [u8],
+) -> u32
+    ensures { λ n. ⌜ n ≡ number (seededKeygenAnswer (now (seed .entry)) (now (s .entry)) (now (e .entry)) (length (now (public .entry))) (length (now (secret .entry)))) ⌝ }
+    ensures { λ _. ⌜ now (public .exit) ≡ seededKeygenPublic (now (seed .entry)) (now (s .entry)) (now (e .entry)) (now (public .entry)) (now (secret .entry)) ⌝ }
+    ensures { λ _. ⌜ now (secret .exit) ≡ seededKeygenSecret (now (seed .entry)) (now (s .entry)) (now (e .entry)) (now (public .entry)) (now (secret .entry)) ⌝ }
+{
+    let answer = seeded_keygen::keygen_from_seed(seed, s, e, public, secret);
     answers::number(answer)
 }
 
@@ -76,7 +93,15 @@ pub extern "C" fn polka_open(key: &[u8], sealed: &[u8], noise: &[u8], out: &mut 
     answers::number(answer)
 }
 
-// SHAKE256 of `input`, as many bytes as `out` has. Both may have any length.
+// SHAKE128 of `input`, as many bytes as `out` has. Both may have any length.
+#[no_mangle]
+pub extern "C" fn polka_shake128(input: &[u8], out: &mut [u8])
+    ensures { λ _. ⌜ now (out .exit) ≡ shake128 (now (input .entry)) (length (now (out .entry))) ⌝ }
+{
+    shake::shake128(input, out);
+}
+
+// SHAKE256 likewise.
 #[no_mangle]
 pub extern "C" fn polka_shake256(input: &[u8], out: &mut [u8])
     ensures { λ _. ⌜ now (out .exit) ≡ shake256 (now (input .entry)) (length (now (out .entry))) ⌝ }

@@ -10,7 +10,8 @@ use Rattle.answers.specs.declared.Refusal.the-variants.{WrongMark, WrongVersion
 use Rattle.answers.specs.declared.Answer.{Answer}
 use Rattle.answers.specs.declared.Answer.the-variants.{Done, Refused}
 use Rattle.answers.specs.Answers.{unless, andThen}
-use Rattle.records.specs.Records.{firstOf, secondOf, c1Of, c2Of, headerAnswer, elementsAnswer, recordAnswer, encapsulationAnswer}
+use Rattle.records.specs.Layout.{seededKeyMark}
+use Rattle.records.specs.Records.{firstOf, secondOf, c1Of, c2Of, headerAnswer, wordsAnswer, elementsAnswer, recordAnswer, seededB, seededRecordAnswer, encapsulationAnswer}
 
 module _ (mark : List ℕ) (version : ℕ) (bytes : List ℕ) where
   abbrev judged : Bool → Bool → Answer
@@ -33,6 +34,12 @@ module _ (mark : List ℕ) (version : ℕ) (bytes : List ℕ) where
       → (i ≡ firstUnreduced (firstOf bytes)) × (j ≡ firstUnreduced (secondOf bytes)) → a ≡ andThen h (elementsAnswer i j) → a ≡ recordAnswer mark version bytes
   unfolding recordAnswer
   front-checked e (ei, ej) f = f ∙ ap₂ andThen e (ap₂ elementsAnswer ei ej)
+
+-- a seeded key's record
+pub seeded-checked : (bytes : List ℕ) {h a : Answer} {i : ℕ} → h ≡ headerAnswer seededKeyMark 1 bytes → i ≡ firstUnreduced (seededB bytes)
+    → a ≡ andThen h (wordsAnswer i) → a ≡ seededRecordAnswer bytes
+unfolding seededRecordAnswer
+seeded-checked bytes e ei f = f ∙ ap₂ andThen e (ap wordsAnswer ei)
 
 -- the words of an encapsulation
 pub words-checked : (bytes : List ℕ) {h a : Answer} {i j : ℕ} → h ≡ Done

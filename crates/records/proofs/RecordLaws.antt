@@ -17,7 +17,8 @@ use Rattle.answers.specs.declared.Refusal.{Refusal}
 use Rattle.answers.specs.declared.Refusal.the-variants.{WrongMark, WrongVersion, CoefficientOutOfRange, InvalidCode}
 use Rattle.answers.specs.declared.Answer.the-variants.{Done}
 use Rattle.answers.specs.Answers.{refusalNumber, unless}
-use Rattle.records.specs.Records.{part, headerAnswer, wordsAnswer, codesAnswer, elementsAnswer, firstOf, secondOf, recordAnswer}
+use Rattle.records.specs.Layout.{seededKeyMark}
+use Rattle.records.specs.Records.{part, headerAnswer, wordsAnswer, codesAnswer, elementsAnswer, firstOf, secondOf, recordAnswer, seededB, seededRecordAnswer}
 use Rattle.records.specs.Records.{c1Of, c2Of, encapsulationAnswer}
 use Rattle.records.specs.WellFormed.{WellFormedFront}
 use Rattle.answers.proofs.AnswerLaws.{unless-done, then-done, Never, done-never, unless-never, then-never}
@@ -57,6 +58,14 @@ record-done mark version bytes =
       λ w. ((w .has-mark, w .has-version), (w .first-words, w .second-words)),
     )
 
+pub seeded-done : (bytes : List ℕ)
+    → (seededRecordAnswer bytes ≡ Done) ↔ ((hasMark seededKeyMark bytes ≡ true) × (versionOf bytes ≡ 1) × Element (seededB bytes))
+unfolding seededRecordAnswer
+seeded-done bytes =
+    Iff·trans
+    (Iff·trans (then-done _ _) (Iff·and (header-done seededKeyMark 1 bytes) (words-done (seededB bytes) (length-elementOf _))))
+    (λ ((m, v), words). (m, v, words), λ (m, v, words). ((m, v), words))
+
 pub encapsulation-done : (bytes : List ℕ) → (encapsulationAnswer bytes ≡ Done) ↔ (Element (c1Of bytes) × Element (c2Of bytes))
 unfolding encapsulationAnswer
 encapsulation-done bytes = elements-done (c1Of bytes) (c2Of bytes) (length-elementOf _) (length-elementOf _)
@@ -80,12 +89,19 @@ module _ {k : ℕ} (h : 5 < k) where
   unfolding codesAnswer
   codes-never bytes = test-never (eqb (firstInvalidCode bytes) 1024) InvalidCode (omega arith)
 
+  header-never : (mark : List ℕ) (version : ℕ) (bytes : List ℕ) → Never k (headerAnswer mark version bytes)
+  unfolding headerAnswer
+  header-never mark version bytes =
+      unless-never (hasMark mark bytes) WrongMark (λ e. omega arith) (test-never (eqb (versionOf bytes) version) WrongVersion (omega arith))
+
   pub record-never : (mark : List ℕ) (version : ℕ) (bytes : List ℕ) → Never k (recordAnswer mark version bytes)
-  unfolding recordAnswer headerAnswer
+  unfolding recordAnswer
   record-never mark version bytes =
-      then-never
-      (unless-never (hasMark mark bytes) WrongMark (λ e. omega arith) (test-never (eqb (versionOf bytes) version) WrongVersion (omega arith)))
-      (elements-never (firstUnreduced (firstOf bytes)) (firstUnreduced (secondOf bytes)))
+      then-never (header-never mark version bytes) (elements-never (firstUnreduced (firstOf bytes)) (firstUnreduced (secondOf bytes)))
+
+  pub seeded-never : (bytes : List ℕ) → Never k (seededRecordAnswer bytes)
+  unfolding seededRecordAnswer
+  seeded-never bytes = then-never (header-never seededKeyMark 1 bytes) (words-never (firstUnreduced (seededB bytes)))
 
   pub encapsulation-never : (bytes : List ℕ) → Never k (encapsulationAnswer bytes)
   unfolding encapsulationAnswer

@@ -1,4 +1,4 @@
--- The layout of the records of document 01 ("Bytes"): marks, lengths, and where each part starts.
+-- The layout of the records of document 01 ("Bytes") and of document 02, No. 2: marks, lengths, and where each part starts.
 use mathlib.Core.List.{List, [], _∷_}
 use Prim.Native.Nat.{ℕ}
 pub use Rattle.encoding.specs.Header.{headerLength}
@@ -10,6 +10,10 @@ pub use Rattle.encoding.specs.Codes.{ternaryLength}
 -- "PDK"
 abbrev pub publicKeyMark : List ℕ
 publicKeyMark = 80 ∷ 68 ∷ 75 ∷ []
+
+-- "PDS", document 02's short public key
+abbrev pub seededKeyMark : List ℕ
+seededKeyMark = 80 ∷ 68 ∷ 83 ∷ []
 
 -- "SDK"
 abbrev pub secretKeyMark : List ℕ
@@ -23,6 +27,12 @@ sealedEntryMark = 80 ∷ 76 ∷ 71 ∷ []
 
 abbrev pub publicKeyLength : ℕ
 publicKeyLength = 4101
+
+abbrev pub seedLength : ℕ
+seedLength = 32
+
+abbrev pub seededKeyLength : ℕ
+seededKeyLength = 2085
 
 -- document 01's desk key
 abbrev pub secretKeyLength : ℕ
@@ -58,3 +68,13 @@ thirdPlace = 4101
 
 abbrev pub tagPlace : ℕ
 tagPlace = 4117
+
+-- ---- places, in a seeded public key
+
+-- behind the header
+abbrev pub seedPlace : ℕ
+seedPlace = 5
+
+-- of b, behind the seed
+abbrev pub seededBPlace : ℕ
+seededBPlace = 37

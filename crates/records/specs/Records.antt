@@ -1,4 +1,4 @@
--- The records of document 01 ("Bytes"): their parts, what their checks answer and in which order, and what their writers write.
+-- The records of document 01 ("Bytes") and of document 02, No. 2: their parts, what their checks answer and in which order, and what their writers write.
 use mathlib.Core.List.{List, _++_}
 use Prim.Native.Nat.{ℕ}
 use lib.Dec.{eqb}
@@ -11,8 +11,8 @@ use Rattle.answers.specs.declared.Refusal.the-variants.{WrongMark, WrongVersion
 use Rattle.answers.specs.declared.Answer.{Answer}
 use Rattle.answers.specs.declared.Answer.the-variants.{Done}
 use Rattle.answers.specs.Answers.{unless, andThen}
-use Rattle.records.specs.Layout.{elementLength, ternaryLength, blockLength, firstPlace, secondPlace, thirdPlace, tagPlace}
-use Rattle.records.specs.Layout.{publicKeyMark, secretKeyMark, sealedEntryMark}
+use Rattle.records.specs.Layout.{elementLength, ternaryLength, blockLength, seedLength, firstPlace, secondPlace, thirdPlace, tagPlace, seedPlace, seededBPlace}
+use Rattle.records.specs.Layout.{publicKeyMark, seededKeyMark, secretKeyMark, sealedEntryMark}
 
 -- k bytes from place i on
 abbrev pub part : (i k : ℕ) (bytes : List ℕ) → List ℕ
@@ -77,6 +77,21 @@ tagPart bytes = part tagPlace blockLength bytes
 
 abbrev pub sealedEntryBytes : (c1 c2 body tag : List ℕ) → List ℕ
 sealedEntryBytes c1 c2 body tag = recordBytes sealedEntryMark 1 c1 c2 ++ body ++ tag
+
+-- ---- seeded public key (document 02's short public key): a header, the seed of a, and b
+
+abbrev pub seedOf : List ℕ → List ℕ
+seedOf bytes = part seedPlace seedLength bytes
+
+abbrev pub seededB : List ℕ → List ℕ
+seededB bytes = elementOf (part seededBPlace elementLength bytes)
+
+-- 2, 3, then 4
+unfoldable pub seededRecordAnswer : List ℕ → Answer
+seededRecordAnswer bytes = andThen (headerAnswer seededKeyMark 1 bytes) (wordsAnswer (firstUnreduced (seededB bytes)))
+
+unfoldable pub seededKeyBytes : (seed b : List ℕ) → List ℕ
+seededKeyBytes seed b = header seededKeyMark 1 ++ seed ++ elementBytes b
 
 -- ---- encapsulation (document 01's bare capsule): two elements
 

@@ -1,4 +1,4 @@
--- When the records of document 01 are well formed ("What the desk says"): the checks of a record's own bytes pass.
+-- When the records of document 01 and of document 02, No. 2, are well formed ("What the desk says"): the checks of a record's own bytes pass.
 use mathlib.Core.Path.{_≡_}
 use mathlib.Core.Bool.{true}
 use mathlib.Core.List.{List}
@@ -7,8 +7,8 @@ use lib.ListN.{length}
 use Rattle.ring.specs.Ring.{n, Element}
 use Rattle.encoding.specs.Codes.{firstInvalidCode}
 use Rattle.encoding.specs.Header.{hasMark, versionOf}
-use Rattle.records.specs.Layout.{publicKeyMark, secretKeyMark, sealedEntryMark, publicKeyLength, secretKeyLength, sealedEntryLength, encapsulationLength}
-use Rattle.records.specs.Records.{firstOf, secondOf, codesPart, c1Of, c2Of}
+use Rattle.records.specs.Layout.{seededKeyMark, secretKeyMark, sealedEntryMark, seededKeyLength, secretKeyLength, sealedEntryLength, encapsulationLength}
+use Rattle.records.specs.Records.{firstOf, secondOf, codesPart, seededB, c1Of, c2Of}
 
 -- the front of a public key, a secret key and a sealed entry: mark, version, and every word below q
 pub record WellFormedFront (mark : List ℕ) (version : ℕ) (bytes : List ℕ) : Type 0 where
@@ -17,10 +17,12 @@ pub record WellFormedFront (mark : List ℕ) (version : ℕ) (bytes : List ℕ) 
   pub first-words : Element (firstOf bytes)
   pub second-words : Element (secondOf bytes)
 
--- a public key, "PDK"
-pub record WellFormedPublicKey (k : List ℕ) : Type 0 where
-  pub size : length k ≡ publicKeyLength
-  pub front : WellFormedFront publicKeyMark 1 k
+-- a seeded public key, "PDS"
+pub record WellFormedSeededKey (k : List ℕ) : Type 0 where
+  pub size : length k ≡ seededKeyLength
+  pub has-mark : hasMark seededKeyMark k ≡ true
+  pub has-version : versionOf k ≡ 1
+  pub words : Element (seededB k)
 
 -- a secret key, "SDK": no code of s is 3
 pub record WellFormedKey (k : List ℕ) : Type 0 where

@@ -1,5 +1,5 @@
-// The records of document 01 as bytes: their layout, what their checks answer, in order, and the front that keys and sealed entries share,
-// read and written. Keys are written here; sealed_records and triples have the other records.
+// The records of document 01 and of document 02, No. 2, as bytes: their layout, what their checks answer, in order, and the front that keys and sealed entries share,
+// read and written. Document 01's keys are written here; seeded_records, sealed_records and triples have the other records.
 // The calls test every length first, so the functions here are lent buffers of the record's length.
 use answers::Answer;
 use answers::Refusal;
@@ -21,8 +21,10 @@ ghost use Rattle.records.specs.Read.{frontOf};
 
 // ---- layout: marks, places and lengths
 
-// "PDK", "SDK" and "PLG".
+// "PDK", "PDS", "SDK" and "PLG".
 pub const PUBLIC_KEY_MARK: [u8; MARK_LENGTH] = [80, 68, 75];
+
+pub const SEEDED_KEY_MARK: [u8; MARK_LENGTH] = [80, 68, 83];
 
 pub const SECRET_KEY_MARK: [u8; MARK_LENGTH] = [83, 68, 75];
 
@@ -39,6 +41,15 @@ pub const TAG: usize = THIRD + BLOCK_LENGTH;
 
 pub const PUBLIC_KEY_LENGTH: usize = THIRD;
 
+// A seed, and where the parts of a seeded public key start: the seed, and b.
+pub const SEED_LENGTH: usize = 32;
+
+pub const SEED: usize = HEADER_LENGTH;
+
+pub const SEEDED_B: usize = SEED + SEED_LENGTH;
+
+pub const SEEDED_KEY_LENGTH: usize = SEEDED_B + ELEMENT_LENGTH;
+
 pub const SECRET_KEY_LENGTH: usize = THIRD + TERNARY_LENGTH;
 
 pub const SEALED_ENTRY_LENGTH: usize = TAG + BLOCK_LENGTH;
@@ -50,7 +61,7 @@ pub const TRIPLE_LENGTH: usize = 3 * TERNARY_LENGTH;
 // ---- checks
 
 // Mark and version.
-fn check_header(bytes: &[u8], mark: [u8; MARK_LENGTH], version: u16) -> Answer
+pub fn check_header(bytes: &[u8], mark: [u8; MARK_LENGTH], version: u16) -> Answer
     ensures { λ a. ⌜ a ≡ headerAnswer mark version (now (bytes .entry)) ⌝ }
 {
     if !encoding::has_mark(bytes, mark) {
@@ -63,7 +74,7 @@ fn check_header(bytes: &[u8], mark: [u8; MARK_LENGTH], version: u16) -> Answer
 }
 
 // What the place of the first word that is q or more is answered by.
-fn words_answer(place: usize) -> Answer
+pub fn words_answer(place: usize) -> Answer
     ensures { λ a. ⌜ a ≡ wordsAnswer place ⌝ }
 {
     answers::unless(place == DEGREE, Refusal::CoefficientOutOfRange)

@@ -1,27 +1,28 @@
-// The calls of a console, which is lent a public key. Buffers may have any length; under any answer but Done every output is as it came.
+// The calls of a console, which is lent a public key of either kind. Buffers may have any length; under any answer but Done every output is as it came.
 use answers::Answer;
 use answers::Refusal;
-use keys::PublicKey;
 use keys::TRIPLE_NOISE_LENGTH;
 use ntt::Element;
 use ntt::FACTORS;
 use octets::BLOCK_LENGTH;
+use public_keys::PublicKey;
 use records::ENCAPSULATION_LENGTH;
-use records::PUBLIC_KEY_LENGTH;
 use records::SEALED_ENTRY_LENGTH;
 use records::TRIPLE_LENGTH;
 use scheme::Triple;
 ghost use mathlib.Core.Path.{_≡_};
+ghost use mathlib.Core.Bool.{true};
 ghost use lib.ListN.{length};
 ghost use Rattle.ntt.specs.Spectrum.{coefficientsOf};
 ghost use Rattle.ntt.specs.Factors.{forwardFactors, backwardFactors};
 ghost use Rattle.scheme.specs.Scheme.{masked};
 ghost use Rattle.scheme.specs.Answers as Struct;
 ghost use Rattle.answers.specs.Answers.{andThen, onDone};
-ghost use Rattle.records.specs.Layout.{publicKeyLength, sealedEntryLength, encapsulationLength, tripleLength, blockLength};
-ghost use Rattle.records.specs.Records.{firstOf, secondOf, sealedEntryBytes, encapsulationBytes};
+ghost use Rattle.records.specs.Layout.{sealedEntryLength, encapsulationLength, tripleLength, blockLength};
+ghost use Rattle.records.specs.Records.{sealedEntryBytes, encapsulationBytes};
 ghost use Rattle.triples.specs.Triple.{tripleOf, tripleAnswer};
-ghost use Rattle.keys.specs.Keys.{publicAnswer, tripleNoiseLength};
+ghost use Rattle.public_keys.specs.PublicKeys.{publicLength?, publicA, publicB, publicAnswer};
+ghost use Rattle.keys.specs.Keys.{tripleNoiseLength};
 ghost use Rattle.calls.specs.Calls.{encapsulateAnswer, encapsulatedWith, encapsulateOut, sealAnswer, sealedWith, sealedBytes, sealOut};
 
 // ---- encapsulate
@@ -60,15 +61,15 @@ fn encapsulate_with(
 
 // Of records with the right lengths.
 fn encapsulate_records(key: &[u8], triple: &[u8]) -> Encapsulated
-    requires { ⌜ (length (now key) ≡ publicKeyLength) × (length (now triple) ≡ tripleLength) ⌝ }
+    requires { ⌜ (publicLength? (length (now key)) ≡ true) × (length (now triple) ≡ tripleLength) ⌝ }
     ensures { λ e. ⌜ e .answer ≡ andThen (publicAnswer (now (key .entry))) (tripleAnswer (now (triple .entry))) ⌝ }
-    ensures { λ e. ⌜ encapsulationBytes (e .c1) (e .c2) ≡ encapsulatedWith (firstOf (now (key .entry))) (secondOf (now (key .entry))) (tripleOf (now (triple .entry))) ⌝ }
+    ensures { λ e. ⌜ encapsulationBytes (e .c1) (e .c2) ≡ encapsulatedWith (publicA (now (key .entry))) (publicB (now (key .entry))) (tripleOf (now (triple .entry))) ⌝ }
 {
     let mut forward = [0u16; FACTORS];
     let mut backward = [0u16; FACTORS];
     ntt::forward_factors(&mut forward);
     ntt::backward_factors(&mut backward);
-    let k = keys::read_public_key(key, &forward);
+    let k = public_keys::read_public_key(key, &forward);
     let codes = triples::check_triple(triple);
     let t = triples::read_triple(triple);
     encapsulate_with(k, codes, t, &forward, &backward)
@@ -87,7 +88,7 @@ pub fn encapsulate(key: &[u8], triple: &[u8], out: &mut [u8]) -> Answer
     ensures { λ a. ⌜ a ≡ encapsulateAnswer (now (key .entry)) (now (triple .entry)) (length (now (out .entry))) ⌝ }
     ensures { λ _. ⌜ now (out .exit) ≡ encapsulateOut (now (key .entry)) (now (triple .entry)) (now (out .entry)) ⌝ }
 {
-    let fits = (key.len() == PUBLIC_KEY_LENGTH)
+    let fits = public_keys::is_public_length(key.len())
         & (triple.len() == TRIPLE_LENGTH)
         & (out.len() == ENCAPSULATION_LENGTH);
     if !fits {
@@ -147,7 +148,7 @@ fn seal_with(
 
 // Of a record, noise and an entry with the right lengths.
 fn seal_records(key: &[u8], noise: &[u8], entry: &[u8]) -> Sealed
-    requires { ⌜ (length (now key) ≡ publicKeyLength) × (length (now noise) ≡ tripleNoiseLength) × (length (now entry) ≡ blockLength) ⌝ }
+    requires { ⌜ (publicLength? (length (now key)) ≡ true) × (length (now noise) ≡ tripleNoiseLength) × (length (now entry) ≡ blockLength) ⌝ }
     ensures { λ s. ⌜ s .answer ≡ publicAnswer (now (key .entry)) ⌝ }
     ensures { λ s. ⌜ sealedEntryBytes (s .c1) (s .c2) (s .body) (s .tag) ≡ sealedBytes (now (key .entry)) (now (noise .entry)) (now (entry .entry)) ⌝ }
 {
@@ -155,7 +156,7 @@ fn seal_records(key: &[u8], noise: &[u8], entry: &[u8]) -> Sealed
     let mut backward = [0u16; FACTORS];
     ntt::forward_factors(&mut forward);
     ntt::backward_factors(&mut backward);
-    let k = keys::read_public_key(key, &forward);
+    let k = public_keys::read_public_key(key, &forward);
     let t = keys::noise_triple(noise);
     let block = octets::read_block(entry);
     seal_with(k, t, block, &forward, &backward)
@@ -178,7 +179,7 @@ pub fn seal(key: &[u8], noise: &[u8], entry: &[u8], out: &mut [u8]) -> Answer
     ensures { λ a. ⌜ a ≡ sealAnswer (now (key .entry)) (now (noise .entry)) (now (entry .entry)) (length (now (out .entry))) ⌝ }
     ensures { λ _. ⌜ now (out .exit) ≡ sealOut (now (key .entry)) (now (noise .entry)) (now (entry .entry)) (now (out .entry)) ⌝ }
 {
-    let fits = (key.len() == PUBLIC_KEY_LENGTH)
+    let fits = public_keys::is_public_length(key.len())
         & (noise.len() == TRIPLE_NOISE_LENGTH)
         & (entry.len() == BLOCK_LENGTH)
         & (out.len() == SEALED_ENTRY_LENGTH);

@@ -4,15 +4,13 @@ use mathlib.Core.List.{List, _++_, append-assoc}
 use Prim.Native.Nat.{ℕ, _+_, _<_, _≤_}
 use native.Mathlib.Omega.{arith}
 use lib.ListN.{length, getD, take, drop, length-drop, take-append-drop}
-use lib.Seq.{take-all, drop-drop, length-take-le, getD-take, getD-drop}
-use Rattle.algebra.specs.Numbers.{Below}
-use Rattle.algebra.proofs.Numbers.{below-by}
+use lib.Seq.{take-all, drop-drop}
 use Rattle.ring.specs.Centred.{Ternary}
 use Rattle.encoding.specs.Codes.{ternaryOf, firstInvalidCode, ternaryBytes}
 use Rattle.encoding.proofs.Codes.{ternaryOf-take, length-ternaryBytes}
 use Rattle.encoding.proofs.RoundTrips.{ternaryOf-written, ternaryOf-bytes, bytes-ternaryOf}
 use Rattle.records.specs.Records.{part}
-use Rattle.records.proofs.WrittenRecords.{length-both, part-behind, part-end}
+use Rattle.records.proofs.WrittenRecords.{length-both, part-behind, part-end, part-length, part-below}
 use Rattle.triples.specs.Triple.{rOf, e1Of, e2Of, tripleBytes}
 use Rattle.triples.specs.WellFormed.{WellFormedTriple}
 
@@ -48,13 +46,7 @@ triple-bytes t w bytes =
     ∙ ap (λ (x : List ℕ). take 256 t ++ x) (take-append-drop 256 (drop 256 t))
     ∙ take-append-drop 256 t
   where
-    size : (i : ℕ) → i + 256 ≤ 768 → length (part i 256 t) ≡ 256
-    size i h = length-take-le 256 (drop i t) (omega (arith, length-drop i t, w .size))
-
-    below : (i : ℕ) → i + 256 ≤ 768 → Below 256 (part i 256 t)
-    below i h =
-        below-by 256 (part i 256 t)
-        (λ j l. let short : j < 256 = omega (arith, size i h) in rw (getD-take 256 (drop i t) j 0 short, getD-drop i t j 0) (bytes (i + j)))
-
     same : (i : ℕ) → i + 256 ≤ 768 → firstInvalidCode (part i 256 t) ≡ 1024 → ternaryBytes (ternaryOf (part i 256 t)) ≡ part i 256 t
-    same i h valid = bytes-ternaryOf (part i 256 t) (size i h) (below i h) valid
+    same i h valid =
+        let within : i + 256 ≤ length t = omega (arith, w .size) in
+        bytes-ternaryOf (part i 256 t) (part-length i 256 t within) (part-below i 256 t within bytes) valid

@@ -10,36 +10,41 @@ use Rattle.answers.specs.declared.Refusal.the-variants.{WrongLength}
 use Rattle.answers.specs.declared.Answer.{Answer}
 use Rattle.answers.specs.Answers.{unless, andThen, onDone}
 use Rattle.triples.specs.Triple.{tripleOf, tripleAnswer}
-use Rattle.records.specs.Records.{firstOf, secondOf}
-use Rattle.keys.specs.Keys.{publicAnswer}
+use Rattle.public_keys.specs.PublicKeys.{publicLength?, publicA, publicB, publicAnswer}
 use Rattle.calls.specs.Calls.{encapsulateAnswer, encapsulatedWith, encapsulateOut}
 use Rattle.calls.proofs.Lengths.{encapsulate-fits}
 use borrow.Author.Needs.{needs}
 use Rattle.sealing.proofs.encapsulate.Statement.{statement}
 use Rattle.sealing.proofs.encapsulate.Tie as tie
 
+is-public-length-requires : tie.Need-is-public-length-requires
+is-public-length-requires c κs = search needs
+
 returns : tie.Need-returns
 unfolding encapsulateAnswer encapsulateOut
 returns c =
-    let args = c .before .before .before .before .args in
+    let args = c .before .before .before .before .before .args in
     let k = now (args .key) in
     let t = now (args .triple) in
     let old = now (args .out) in
-    let misfit : eqb (length k) 4101 && eqb (length t) 768 && eqb (length old) 4096 ≡ false = not-true _ (c .if1 .taken) in
+    let misfit : publicLength? (length k) && eqb (length t) 768 && eqb (length old) 4096 ≡ false =
+    ap (λ (b : Bool). b && eqb (length t) 768 && eqb (length old) 4096) (sym (c .before .is-public-length .ensures)) ∙ not-true _ (c .if1 .taken) in
     let answer = sym (ap (λ (b : Bool). unless b WrongLength (andThen (publicAnswer k) (tripleAnswer t))) misfit) in
-    (answer, ap (λ (a : Answer). onDone a (encapsulatedWith (firstOf k) (secondOf k) (tripleOf t)) old) answer)
+    (answer, ap (λ (a : Answer). onDone a (encapsulatedWith (publicA k) (publicB k) (tripleOf t)) old) answer)
 
 encapsulate-records-requires : tie.Need-encapsulate-records-requires
 encapsulate-records-requires c κs =
-    let args = c .before .before .before .before .args in
-    let (key, triple, room) = encapsulate-fits (now (args .key)) (now (args .triple)) (length (now (args .out))) .0 (not-false _ (c .if1 .left)) in
+    let args = c .before .before .before .before .before .args in
+    let fits = ap (λ (b : Bool). b && eqb (length (now (args .triple))) 768 && eqb (length (now (args .out))) 4096) (sym (c .before .is-public-length .ensures)) in
+    let (key, triple, room) = encapsulate-fits (now (args .key)) (now (args .triple)) (length (now (args .out))) .0 (fits ∙ not-false _ (c .if1 .left)) in
     (key, triple)
 
 write-encapsulation-requires : tie.Need-write-encapsulation-requires
 write-encapsulation-requires c κs =
     let left = c .before .before .before .before in
-    let args = left .before .before .before .before .args in
-    encapsulate-fits (now (args .key)) (now (args .triple)) (length (now (args .out))) .0 (not-false _ (left .if1 .left)) .2
+    let args = left .before .before .before .before .before .args in
+    let fits = ap (λ (b : Bool). b && eqb (length (now (args .triple))) 768 && eqb (length (now (args .out))) 4096) (sym (left .before .is-public-length .ensures)) in
+    encapsulate-fits (now (args .key)) (now (args .triple)) (length (now (args .out))) .0 (fits ∙ not-false _ (left .if1 .left)) .2
 
 same-length : tie.Need-same-length
 same-length c = search needs
@@ -49,11 +54,12 @@ unfolding encapsulateAnswer encapsulateOut
 returns-2 c =
     let made = c .before .before .before .before .before .before in
     let left = made .before in
-    let args = left .before .before .before .before .args in
+    let args = left .before .before .before .before .before .args in
     let k = now (args .key) in
     let t = now (args .triple) in
     let old = now (args .out) in
-    let fits : eqb (length k) 4101 && eqb (length t) 768 && eqb (length old) 4096 ≡ true = not-false _ (left .if1 .left) in
+    let fits : publicLength? (length k) && eqb (length t) 768 && eqb (length old) 4096 ≡ true =
+    ap (λ (b : Bool). b && eqb (length t) 768 && eqb (length old) 4096) (sym (left .before .is-public-length .ensures)) ∙ not-false _ (left .if1 .left) in
     let (checked, bytes) = made .encapsulate-records .ensures in
     let answer = checked ∙ sym (ap (λ (b : Bool). unless b WrongLength (andThen (publicAnswer k) (tripleAnswer t))) fits) in
     (answer, c .before .before .write-encapsulation .ensures ∙ ap₂ (λ (a : Answer) (x : List ℕ). onDone a x old) answer bytes)
@@ -62,6 +68,7 @@ pub encapsulate-spec : {M : Type 1} → statement M
 encapsulate-spec =
     tie.close
     (tie.spec
+    is-public-length-requires
     returns
     encapsulate-records-requires
     write-encapsulation-requires

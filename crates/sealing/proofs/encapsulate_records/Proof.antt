@@ -1,8 +1,8 @@
 use mathlib.Core.Path.{ap₂, _∙_}
 use denote.Ref.{now}
-use Rattle.encoding.proofs.Words.{length-elementOf}
 use Rattle.answers.specs.Answers.{andThen}
-use Rattle.records.specs.Records.{firstOf, secondOf}
+use Rattle.public_keys.specs.PublicKeys.{publicA, publicB}
+use Rattle.public_keys.proofs.EitherKind.{length-a, length-b}
 use Rattle.ntt.proofs.Factors.{forward-size, backward-size}
 use Rattle.sealing.proofs.Laws.{encapsulated-through}
 use borrow.Author.Needs.{needs}
@@ -45,7 +45,7 @@ returns c =
     let (checked, (a, b)) = read .read-public-key .ensures in
     let (answer, (c1, c2)) = c .encapsulate-with .ensures in (
       answer ∙ ap₂ andThen checked (codes .check-triple .ensures),
-      encapsulated-through (firstOf k) (secondOf k) (length-elementOf _) (length-elementOf _) a b c1 c2 (triple .read-triple .ensures),
+      encapsulated-through (publicA k) (publicB k) (length-a k) (length-b k) a b c1 c2 (triple .read-triple .ensures),
     )
 
 pub encapsulate-records-spec : {M : Type 1} → statement M

@@ -9,37 +9,43 @@ use borrow.Author.Tests.{not-true, not-false}
 use Rattle.answers.specs.declared.Refusal.the-variants.{WrongLength}
 use Rattle.answers.specs.declared.Answer.{Answer}
 use Rattle.answers.specs.Answers.{unless, onDone}
-use Rattle.keys.specs.Keys.{publicAnswer}
+use Rattle.public_keys.specs.PublicKeys.{publicLength?, publicAnswer}
 use Rattle.calls.specs.Calls.{sealAnswer, sealedBytes, sealOut}
 use Rattle.calls.proofs.Lengths.{seal-fits}
 use borrow.Author.Needs.{needs}
 use Rattle.sealing.proofs.seal.Statement.{statement}
 use Rattle.sealing.proofs.seal.Tie as tie
 
+is-public-length-requires : tie.Need-is-public-length-requires
+is-public-length-requires c κs = search needs
+
 returns : tie.Need-returns
 unfolding sealAnswer sealOut
 returns c =
-    let args = c .before .before .before .before .before .args in
+    let args = c .before .before .before .before .before .before .args in
     let k = now (args .key) in
     let noise = now (args .noise) in
     let entry = now (args .entry) in
     let old = now (args .out) in
-    let misfit : eqb (length k) 4101 && eqb (length noise) 1536 && eqb (length entry) 16 && eqb (length old) 4133 ≡ false = not-true _ (c .if1 .taken) in
+    let misfit : publicLength? (length k) && eqb (length noise) 1536 && eqb (length entry) 16 && eqb (length old) 4133 ≡ false =
+    ap (λ (b : Bool). b && eqb (length noise) 1536 && eqb (length entry) 16 && eqb (length old) 4133) (sym (c .before .is-public-length .ensures)) ∙ not-true _ (c .if1 .taken) in
     let answer = sym (ap (λ (b : Bool). unless b WrongLength (publicAnswer k)) misfit) in
     (answer, ap (λ (a : Answer). onDone a (sealedBytes k noise entry) old) answer)
 
 seal-records-requires : tie.Need-seal-records-requires
 seal-records-requires c κs =
-    let args = c .before .before .before .before .before .args in
+    let args = c .before .before .before .before .before .before .args in
+    let fits = ap (λ (b : Bool). b && eqb (length (now (args .noise))) 1536 && eqb (length (now (args .entry))) 16 && eqb (length (now (args .out))) 4133) (sym (c .before .is-public-length .ensures)) in
     let (key, noise, entry, room) =
-    seal-fits (now (args .key)) (now (args .noise)) (now (args .entry)) (length (now (args .out))) .0 (not-false _ (c .if1 .left)) in
+    seal-fits (now (args .key)) (now (args .noise)) (now (args .entry)) (length (now (args .out))) .0 (fits ∙ not-false _ (c .if1 .left)) in
     (key, noise, entry)
 
 write-sealed-requires : tie.Need-write-sealed-requires
 write-sealed-requires c κs =
     let left = c .before .before in
-    let args = left .before .before .before .before .before .args in
-    seal-fits (now (args .key)) (now (args .noise)) (now (args .entry)) (length (now (args .out))) .0 (not-false _ (left .if1 .left)) .3
+    let args = left .before .before .before .before .before .before .args in
+    let fits = ap (λ (b : Bool). b && eqb (length (now (args .noise))) 1536 && eqb (length (now (args .entry))) 16 && eqb (length (now (args .out))) 4133) (sym (left .before .is-public-length .ensures)) in
+    seal-fits (now (args .key)) (now (args .noise)) (now (args .entry)) (length (now (args .out))) .0 (fits ∙ not-false _ (left .if1 .left)) .3
 
 same-length : tie.Need-same-length
 same-length c = search needs
@@ -49,16 +55,17 @@ unfolding sealAnswer sealOut
 returns-2 c =
     let made = c .before .before .before .before in
     let left = made .before in
-    let args = left .before .before .before .before .before .args in
+    let args = left .before .before .before .before .before .before .args in
     let k = now (args .key) in
     let noise = now (args .noise) in
     let entry = now (args .entry) in
     let old = now (args .out) in
-    let fits : eqb (length k) 4101 && eqb (length noise) 1536 && eqb (length entry) 16 && eqb (length old) 4133 ≡ true = not-false _ (left .if1 .left) in
+    let fits : publicLength? (length k) && eqb (length noise) 1536 && eqb (length entry) 16 && eqb (length old) 4133 ≡ true =
+    ap (λ (b : Bool). b && eqb (length noise) 1536 && eqb (length entry) 16 && eqb (length old) 4133) (sym (left .before .is-public-length .ensures)) ∙ not-false _ (left .if1 .left) in
     let (checked, bytes) = made .seal-records .ensures in
     let answer = checked ∙ sym (ap (λ (b : Bool). unless b WrongLength (publicAnswer k)) fits) in
     (answer, c .before .before .write-sealed .ensures ∙ ap₂ (λ (a : Answer) (x : List ℕ). onDone a x old) answer bytes)
 
 pub seal-spec : {M : Type 1} → statement M
 seal-spec =
-    tie.close (tie.spec returns seal-records-requires write-sealed-requires same-length returns-2)
+    tie.close (tie.spec is-public-length-requires returns seal-records-requires write-sealed-requires same-length returns-2)

@@ -1,7 +1,7 @@
 use mathlib.Core.Path.{_∙_}
 use denote.Ref.{now}
-use Rattle.encoding.proofs.Words.{length-elementOf}
-use Rattle.records.specs.Records.{firstOf, secondOf}
+use Rattle.public_keys.specs.PublicKeys.{publicA, publicB}
+use Rattle.public_keys.proofs.EitherKind.{length-a, length-b}
 use Rattle.calls.specs.Calls.{sealedBytes}
 use Rattle.ntt.proofs.Factors.{forward-size, backward-size}
 use Rattle.sealing.proofs.Laws.{sealed-through}
@@ -46,7 +46,7 @@ returns c =
     let (checked, (a, b)) = read .read-public-key .ensures in
     let (answer, bytes) = c .seal-with .ensures in (
       answer ∙ checked,
-      bytes ∙ sealed-through (firstOf k) (secondOf k) (length-elementOf _) (length-elementOf _) a b (triple .noise-triple .ensures) (entry .read-block .ensures),
+      bytes ∙ sealed-through (publicA k) (publicB k) (length-a k) (length-b k) a b (triple .noise-triple .ensures) (entry .read-block .ensures),
     )
 
 pub seal-records-spec : {M : Type 1} → statement M

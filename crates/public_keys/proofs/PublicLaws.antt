@@ -1,0 +1,181 @@
+-- The checks of a public key of either kind: when they say Done, when 6, and when 8.
+use mathlib.Core.Path.{_≡_, refl, sym, ap, _∙_}
+use mathlib.Core.Bool.{Bool, true, false, decide, decide-iff, not-eq-not, false≢true, _||_}
+use mathlib.Core.Logic.{_↔_, _⊎_, inl, inr, Iff·rfl, Iff·trans, Iff·and}
+use mathlib.Core.List.{List}
+use Prim.Native.Nat.{ℕ, _<_}
+use native.Mathlib.Omega.{arith}
+use lib.Dec.{eqb}
+use lib.ListN.{length}
+use borrow.Author.Tests.{eqb-true, eq-eqb, ne-eqb}
+use Rattle.ring.specs.Ring.{n, Invertible}
+use Rattle.ring.specs.Invertible.{invertible?}
+use Rattle.sampling.specs.Stream.{taken}
+use Rattle.sampling.proofs.Streams.{uniform-element}
+use Rattle.seeds.specs.Seeds.{seedStream}
+use Rattle.answers.specs.declared.Refusal.the-variants as Refusal
+use Rattle.answers.specs.declared.Answer.the-variants.{Done}
+use Rattle.answers.specs.Answers.{number, unless, andThen}
+use Rattle.records.specs.Layout.{publicKeyMark, publicKeyLength, seededKeyLength}
+use Rattle.records.specs.Records.{seedOf}
+use Rattle.records.specs.WellFormed.{WellFormedSeededKey}
+use Rattle.public_keys.specs.PublicKeys.{streamAnswer, inverseAnswer, publicLength?, seeded?, publicB, publicRecordAnswer, publicStreamAnswer, publicAnswer}
+use Rattle.public_keys.specs.WellFormed.{SeedFills, PublicHeader, PublicRecord}
+use Rattle.answers.proofs.AnswerLaws.{Never, done-never, unless-done, unless-never, unless-refuses, then-done, then-never, then-says, then-refuses}
+use Rattle.records.proofs.RecordLaws.{equal-done, record-done, seeded-done, record-never, seeded-never}
+use Rattle.public_keys.proofs.EitherKind.{seeded-a, seeded-b, seeded-record, seeded-stream, long-a, long-b, long-record, long-stream}
+
+-- ---- 6
+
+pub inverse-done : (b : List ℕ) → (inverseAnswer b ≡ Done) ↔ Invertible b
+inverse-done b =
+    Iff·trans (unless-done (decide (invertible? b)) Refusal.NotInvertible Done)
+    (λ (found, e). decide-iff (invertible? b) .0 found, λ unit. (decide-iff (invertible? b) .1 unit, refl))
+
+pub none-decided : (b : List ℕ) → (decide (invertible? b) ≡ false) ↔ ¬ (Invertible b)
+none-decided b =
+    (λ e unit. false≢true (sym e ∙ decide-iff (invertible? b) .1 unit), λ none. not-eq-not .0 (λ e. none (decide-iff (invertible? b) .0 e)))
+
+pub inverse-refused : (b : List ℕ) → (number (inverseAnswer b) ≡ 6) ↔ ¬ (Invertible b)
+inverse-refused b = Iff·trans (unless-refuses (decide (invertible? b)) Refusal.NotInvertible) (none-decided b)
+
+-- it says no other number
+pub inverse-never : (b : List ℕ) → Never 8 (inverseAnswer b)
+inverse-never b = unless-never (decide (invertible? b)) Refusal.NotInvertible (λ (e : 6 ≡ 8). omega arith) (done-never (omega arith))
+
+-- ---- 8
+
+pub stream-done : (stream : List ℕ) → (streamAnswer stream ≡ Done) ↔ (length (taken stream) ≡ n)
+stream-done stream = equal-done (length (taken stream)) n Refusal.StreamExhausted
+
+pub stream-refused : (stream : List ℕ) → (number (streamAnswer stream) ≡ 8) ↔ ¬ (length (taken stream) ≡ n)
+stream-refused stream =
+    Iff·trans (unless-refuses (eqb (length (taken stream)) n) Refusal.StreamExhausted)
+    (λ e same. false≢true (sym e ∙ eq-eqb (length (taken stream)) n same), λ other. ne-eqb (length (taken stream)) n other)
+
+pub stream-never : (stream : List ℕ) → Never 6 (streamAnswer stream)
+stream-never stream = unless-never (eqb (length (taken stream)) n) Refusal.StreamExhausted (λ (e : 8 ≡ 6). omega arith) (done-never (omega arith))
+
+-- ---- lengths
+
+pub public-length : (size : ℕ) → (publicLength? size ≡ true) ↔ ((size ≡ publicKeyLength) ⊎ (size ≡ seededKeyLength))
+public-length size = (either (eqb size publicKeyLength) refl, one-of)
+  where
+    either : (b : Bool) → eqb size publicKeyLength ≡ b → b || eqb size seededKeyLength ≡ true → (size ≡ publicKeyLength) ⊎ (size ≡ seededKeyLength)
+    either true e h = inl (eqb-true size publicKeyLength e)
+    either false e h = inr (eqb-true size seededKeyLength h)
+
+    one-of : (size ≡ publicKeyLength) ⊎ (size ≡ seededKeyLength) → publicLength? size ≡ true
+    one-of (inl e) = rw e
+    one-of (inr e) = rw e
+
+pub long-length : (k : List ℕ) → publicLength? (length k) ≡ true → ¬ (length k ≡ seededKeyLength) → length k ≡ publicKeyLength
+long-length k size other = one (public-length (length k) .0 size)
+  where
+    one : (length k ≡ publicKeyLength) ⊎ (length k ≡ seededKeyLength) → length k ≡ publicKeyLength
+    one (inl e) = e
+    one (inr e) = absurd (other e)
+
+-- ---- the record
+
+module _ (k : List ℕ) where
+  is-seeded : length k ≡ seededKeyLength → seeded? k ≡ true
+  is-seeded = eq-eqb (length k) seededKeyLength
+
+  is-long : length k ≡ publicKeyLength → seeded? k ≡ false
+  is-long size = ne-eqb (length k) seededKeyLength (λ e. omega arith)
+
+  record-never-either : (number : ℕ) → 5 < number → Never number (publicRecordAnswer k)
+  record-never-either number h = by-kind (seeded? k) refl
+    where
+      by-kind : (b : Bool) → seeded? k ≡ b → Never number (publicRecordAnswer k)
+      by-kind true kind = rw (seeded-record k kind) (seeded-never h k)
+      by-kind false kind = rw (long-record k kind) (record-never h publicKeyMark 1 k)
+
+  -- 2, 3, 4 and 8 pass
+  record-either : ((publicLength? (length k) ≡ true) × (publicRecordAnswer k ≡ Done) × (publicStreamAnswer k ≡ Done)) ↔ PublicRecord k
+  record-either = (λ (size, checked, stream). whole (seeded? k) refl size checked stream, λ w. parts (w .header) w)
+    where
+      whole : (b : Bool) → seeded? k ≡ b → publicLength? (length k) ≡ true → publicRecordAnswer k ≡ Done → publicStreamAnswer k ≡ Done → PublicRecord k
+      whole true kind size checked stream =
+          let (mark, version, words) = seeded-done k .0 (sym (seeded-record k kind) ∙ checked) in
+          let fills = stream-done (seedStream (seedOf k)) .0 (sym (seeded-stream k kind) ∙ stream) in
+          record {
+            header = inr ((eqb-true (length k) seededKeyLength kind, mark, version), fills);
+            a-words = rw (seeded-a k kind) (uniform-element (seedStream (seedOf k)));
+            b-words = rw (seeded-b k kind) words;
+          }
+      whole false kind size checked stream =
+          let w = record-done publicKeyMark 1 k .0 (sym (long-record k kind) ∙ checked) in
+          record {
+            header = inl (long-length k size (λ e. false≢true (sym kind ∙ is-seeded e)), w .has-mark, w .has-version);
+            a-words = rw (long-a k kind) (w .first-words);
+            b-words = rw (long-b k kind) (w .second-words);
+          }
+
+      parts : PublicHeader k → PublicRecord k → (publicLength? (length k) ≡ true) × (publicRecordAnswer k ≡ Done) × (publicStreamAnswer k ≡ Done)
+      parts (inl (size, mark, version)) w =
+          let kind = is-long size in (
+            public-length (length k) .1 (inl size),
+            long-record k kind ∙ record-done publicKeyMark 1 k .1
+            (record { has-mark = mark; has-version = version; first-words = rw (sym (long-a k kind)) (w .a-words); second-words = rw (sym (long-b k kind)) (w .b-words) }),
+            long-stream k kind,
+          )
+      parts (inr ((size, mark, version), fills)) w =
+          let kind = is-seeded size in (
+            public-length (length k) .1 (inr size),
+            seeded-record k kind ∙ seeded-done k .1 (mark, version, rw (sym (seeded-b k kind)) (w .b-words)),
+            seeded-stream k kind ∙ stream-done (seedStream (seedOf k)) .1 fills,
+          )
+
+  stream-never-either : Never 6 (publicStreamAnswer k)
+  stream-never-either = by-kind (seeded? k) refl
+    where
+      by-kind : (b : Bool) → seeded? k ≡ b → Never 6 (publicStreamAnswer k)
+      by-kind true kind = rw (seeded-stream k kind) (stream-never (seedStream (seedOf k)))
+      by-kind false kind = rw (long-stream k kind) (done-never (omega arith))
+
+  -- ---- the key
+
+  -- the record passes, and then the last check says what it says
+  behind-record : {Says Meant : Type 0} → Says ↔ Meant
+      → ((publicLength? (length k) ≡ true) × ((publicRecordAnswer k ≡ Done) × ((publicStreamAnswer k ≡ Done) × Says))) ↔ (PublicRecord k × Meant)
+  behind-record last =
+      Iff·trans
+      (λ (size, (checked, (stream, says))). ((size, checked, stream), says), λ ((size, checked, stream), says). (size, (checked, (stream, says))))
+      (Iff·and record-either last)
+
+  pub public-done : ((publicLength? (length k) ≡ true) × (publicAnswer k ≡ Done)) ↔ (PublicRecord k × Invertible (publicB k))
+  unfolding publicAnswer
+  public-done =
+      Iff·trans (Iff·and Iff·rfl (Iff·trans (then-done _ _) (Iff·and Iff·rfl (then-done _ _)))) (behind-record (inverse-done (publicB k)))
+
+  pub public-refused : ((publicLength? (length k) ≡ true) × (number (publicAnswer k) ≡ 6)) ↔ (PublicRecord k × ¬ (Invertible (publicB k)))
+  unfolding publicAnswer
+  public-refused =
+      Iff·trans
+      (Iff·and Iff·rfl (Iff·trans (then-says _ (record-never-either 6 (omega arith))) (Iff·and Iff·rfl (then-says _ stream-never-either))))
+      (behind-record (inverse-refused (publicB k)))
+
+  pub public-exhausted : ((publicLength? (length k) ≡ true) × (number (publicAnswer k) ≡ 8)) ↔ (WellFormedSeededKey k × ¬ (SeedFills k))
+  unfolding publicAnswer
+  public-exhausted =
+      Iff·trans
+      (Iff·and Iff·rfl
+      (Iff·trans (then-says _ (record-never-either 8 (omega arith)))
+      (Iff·and Iff·rfl (then-refuses (publicStreamAnswer k) (omega arith) (inverse-never (publicB k)))))) (
+        λ (size, (checked, says)). by-kind (seeded? k) refl checked says,
+        λ (w, dry).
+            let kind = is-seeded (w .size) in (
+              public-length (length k) .1 (inr (w .size)),
+              (seeded-record k kind ∙ seeded-done k .1 (w .has-mark, w .has-version, w .words), ap number (seeded-stream k kind) ∙ stream-refused (seedStream (seedOf k)) .1 dry),
+            ),
+      )
+    where
+      by-kind : (b : Bool) → seeded? k ≡ b → publicRecordAnswer k ≡ Done → number (publicStreamAnswer k) ≡ 8 → WellFormedSeededKey k × ¬ (SeedFills k)
+      by-kind true kind checked says =
+          let (mark, version, words) = seeded-done k .0 (sym (seeded-record k kind) ∙ checked) in (
+            record { size = eqb-true (length k) seededKeyLength kind; has-mark = mark; has-version = version; words = words },
+            stream-refused (seedStream (seedOf k)) .0 (sym (ap number (seeded-stream k kind)) ∙ says),
+          )
+      by-kind false kind checked says = absurd (omega (arith, sym (ap number (long-stream k kind)) ∙ says))

@@ -1,0 +1,3 @@
+-- Public keys of either kind, and when they are well formed.
+pub mod PublicKeys
+pub mod WellFormed

@@ -1,0 +1,32 @@
+-- When a public key of either kind is well formed and holds an a.
+use mathlib.Core.Path.{_≡_}
+use mathlib.Core.Bool.{true}
+use mathlib.Core.Logic.{_⊎_}
+use mathlib.Core.List.{List}
+use Prim.Native.Nat.{ℕ}
+use lib.ListN.{length}
+use Rattle.ring.specs.Ring.{n, Element}
+use Rattle.encoding.specs.Header.{hasMark, versionOf}
+use Rattle.sampling.specs.Stream.{taken}
+use Rattle.seeds.specs.Seeds.{seedStream}
+use Rattle.records.specs.Layout.{publicKeyMark, seededKeyMark, publicKeyLength, seededKeyLength}
+use Rattle.records.specs.Records.{seedOf}
+use Rattle.public_keys.specs.PublicKeys.{publicA, publicB}
+
+-- length, mark and version 1 of a record
+abbrev pub HasHeader : (size : ℕ) (mark k : List ℕ) → Type 0
+HasHeader size mark k = (length k ≡ size) × (hasMark mark k ≡ true) × (versionOf k ≡ 1)
+
+-- the stream of a seeded key has 1,024 words below q
+abbrev pub SeedFills : List ℕ → Type 0
+SeedFills k = length (taken (seedStream (seedOf k))) ≡ n
+
+-- the header of either record, and behind it what a is read from
+abbrev pub PublicHeader : List ℕ → Type 0
+PublicHeader k = HasHeader publicKeyLength publicKeyMark k ⊎ (HasHeader seededKeyLength seededKeyMark k × SeedFills k)
+
+-- and every word of a and b is below q
+pub record PublicRecord (k : List ℕ) : Type 0 where
+  pub header : PublicHeader k
+  pub a-words : Element (publicA k)
+  pub b-words : Element (publicB k)

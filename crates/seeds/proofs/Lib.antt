@@ -1,0 +1,2 @@
+-- Laws of the stream of a seed.
+pub mod SeedStream

@@ -1,0 +1,2 @@
+-- The a of a seed.
+pub mod Seeds
