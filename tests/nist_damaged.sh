@@ -1,11 +1,11 @@
 #!/usr/bin/env bash
-# Runs nist_shake256 on damaged copies of NIST's files, and fails where a report is not the expected one.
-# usage: tests/nist_damaged.sh     from the top of the repository, after `rt check nist_shake256`
+# Runs nist_shake on damaged copies of NIST's files, and fails where a report is not the expected one.
+# usage: tests/nist_damaged.sh     from the top of the repository, after `rt check nist_shake`
 set -euo pipefail
 
 top=$(cd "$(dirname "$0")/.." && pwd)
-program=$top/target/bin/nist_shake256
-data=$top/crates/nist_shake256/data
+program=$top/target/bin/nist_shake
+data=$top/crates/nist_shake/data
 room=$(mktemp -d)
 trap 'rm -rf "$room"' EXIT
 wrong=0
@@ -24,7 +24,7 @@ fresh() {
 # try WHAT FILE REPORT: the line of FILE is `FILE: REPORT`, and the other three lines are those of the sound files
 try() {
     local expected actual
-    expected=$(sed "s/^$2: .*/$2: $3/" "$top/crates/nist_shake256/stdout")
+    expected=$(sed "s/^$2: .*/$2: $3/" "$top/crates/nist_shake/stdout")
     actual=$(cd "$room/run" && "$program")
     if [ "$actual" = "$expected" ]; then
         echo "ok: $1: $2: $3"
