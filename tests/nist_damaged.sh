@@ -1,11 +1,11 @@
 #!/usr/bin/env bash
-# Runs nist_shake256 on damaged copies of NIST's files, and fails where a report is not the expected one.
-# usage: tests/nist_damaged.sh     from the top of the repository, after `rt check nist_shake256`
+# Runs nist_shake on damaged copies of NIST's files, and fails where a report is not the expected one.
+# usage: tests/nist_damaged.sh     from the top of the repository, after `rt check nist_shake`
 set -euo pipefail
 
 top=$(cd "$(dirname "$0")/.." && pwd)
-program=$top/target/bin/nist_shake256
-data=$top/crates/nist_shake256/data
+program=$top/target/bin/nist_shake
+data=$top/crates/nist_shake/data
 room=$(mktemp -d)
 trap 'rm -rf "$room"' EXIT
 wrong=0
@@ -14,6 +14,10 @@ short=SHAKE256ShortMsg.rsp
 long=SHAKE256LongMsg.rsp
 variable=SHAKE256VariableOut.rsp
 monte=SHAKE256Monte.rsp
+short128=SHAKE128ShortMsg.rsp
+long128=SHAKE128LongMsg.rsp
+variable128=SHAKE128VariableOut.rsp
+monte128=SHAKE128Monte.rsp
 
 fresh() {
     rm -rf "$room/run"
@@ -21,10 +25,10 @@ fresh() {
     cp "$data"/*.rsp "$room/run/"
 }
 
-# try WHAT FILE REPORT: the line of FILE is `FILE: REPORT`, and the other three lines are those of the sound files
+# try WHAT FILE REPORT: the line of FILE is `FILE: REPORT`, and the other lines are those of the sound files
 try() {
     local expected actual
-    expected=$(sed "s/^$2: .*/$2: $3/" "$top/crates/nist_shake256/stdout")
+    expected=$(sed "s/^$2: .*/$2: $3/" "$top/crates/nist_shake/stdout")
     actual=$(cd "$room/run" && "$program")
     if [ "$actual" = "$expected" ]; then
         echo "ok: $1: $2: $3"
@@ -50,7 +54,7 @@ in_file() {
 fresh
 try "sound files" "$short" "273 agreed, 0 differed"
 
-for file in "$short" "$long" "$variable" "$monte"; do
+for file in "$short128" "$long128" "$variable128" "$monte128" "$short" "$long" "$variable" "$monte"; do
     rm "$room/run/$file"
     try "a missing file" "$file" "missing"
     : >"$room/run/$file"
@@ -102,6 +106,16 @@ in_file "$monte" '10s/48a0/48a1/'
 try "a digit of the first message changed" "$monte" "0 agreed, 100 differed"
 in_file "$monte" '17s/88/80/;18s/2a\r/\r/'
 try "an output that is a byte short" "$monte" "99 agreed, 1 differed"
+in_file "$short128" '11s/7f9c/7f9d/'
+try "a digit of an output changed" "$short128" "336 agreed, 1 differed"
+in_file "$long128" '10s/a6fe/a6ff/'
+try "a digit of a message changed" "$long128" "99 agreed, 1 differed"
+in_file "$variable128" '13s/8599/8598/'
+try "a digit of an output changed" "$variable128" "1125 agreed, 1 differed"
+in_file "$monte128" '18s/0ed1/0ed0/'
+try "a digit of an output changed" "$monte128" "99 agreed, 1 differed"
+in_file "$monte128" '10s/c8b3/c8b2/'
+try "a digit of the first message changed" "$monte128" "0 agreed, 100 differed"
 in_file "$short" '11s/46/4g/'
 try "a byte that is no digit" "$short" "malformed at line 11"
 in_file "$short" '10s/00/01/'
@@ -128,8 +142,28 @@ in_file "$variable" '7s/256/128/'
 try "a header's Input Length that does not fit" "$variable" "malformed at line 12"
 in_file "$monte" '8s/2000/1000/'
 try "another maximum" "$monte" "malformed at line 10"
+in_file "$monte128" '8s/1120/2000/'
+try "another maximum" "$monte128" "malformed at line 10"
+in_file "$monte128" '6s/128/16/'
+try "another minimum" "$monte128" "malformed at line 10"
 in_file "$monte" '10s/fd\r/\r/'
 try "a first message of 15 bytes" "$monte" "malformed at line 10"
+
+# the file of the other function
+for kind in ShortMsg LongMsg VariableOut; do
+    for pair in "128 256" "256 128"; do
+        read -r asked given <<<"$pair"
+        cp "$data/SHAKE$given$kind.rsp" "$room/run/SHAKE$asked$kind.rsp"
+        try "the file of SHAKE$given" "SHAKE$asked$kind.rsp" "0 agreed, $(grep -c '^Output = ' "$data/SHAKE$given$kind.rsp") differed"
+    done
+done
+cp "$data/$monte" "$room/run/$monte128"
+try "the file of SHAKE256" "$monte128" "malformed at line 10"
+cp "$data/$monte128" "$room/run/$monte"
+try "the file of SHAKE128" "$monte" "malformed at line 10"
+cp "$data/$monte" "$room/run/$monte128"
+in_file "$monte128" '6s/16/128/;8s/2000/1120/'
+try "the file of SHAKE256 under the headers of SHAKE128" "$monte128" "0 agreed, 100 differed"
 
 # lines out of place
 in_file "$short" '12a extra\r'

@@ -1,6 +1,6 @@
 -- The verdict on the case that a text starts with. A case agrees only if each of its lines has its name, its number and its length, and
--- SHAKE256 of the message, at the length told, is the output told. A line that is wrong in itself makes the case malformed at that line,
--- which is named by how many bytes are left from its start on.
+-- the function under test gives the output told, from the message and at the length told. A line that is wrong in itself makes the case
+-- malformed at that line, which is named by how many bytes are left from its start on.
 use mathlib.Core.Bool.{Bool, cond}
 use mathlib.Core.List.{List, [], _∷_}
 use Prim.Native.Nat.{ℕ}
@@ -11,6 +11,7 @@ use Rattle.response_files.specs.Lines.{afterLine, same, valueOf}
 use Rattle.response_files.specs.Fields.{lengthField, isCount, isHex}
 use Rattle.response_files.specs.declared.Number.{Number}
 use Rattle.response_files.specs.declared.Number.the-variants.{Value, Missing}
+use Rattle.monte_chain.specs.declared.Function.{Function}
 use Rattle.monte_chain.specs.declared.Chain.{Chain}
 use Rattle.nist_cases.specs.declared.Kind.{Kind}
 use Rattle.nist_cases.specs.declared.Kind.the-variants.{Length, Output, Monte}
@@ -39,14 +40,14 @@ abbrev pub most : ℕ
 most = 65536
 
 -- the message gives what is expected, at the length of what is expected
-abbrev pub agrees : (message expected : List ℕ) → Bool
-agrees message expected = same (outputOf message (length expected)) expected
+abbrev pub agrees : (function : Function) (message expected : List ℕ) → Bool
+agrees function message expected = same (outputOf function message (length expected)) expected
 
 -- a message by the line `Output = `, which is to have size bytes
-unfoldable pub judged : (message : List ℕ) (size : ℕ) (text : List ℕ) → Verdict
-judged message size text =
+unfoldable pub judged : (function : Function) (message : List ℕ) (size : ℕ) (text : List ℕ) → Verdict
+judged function message size text =
     cond (isHex most size (valueOf outputName text))
-    (cond (agrees message (bytesOf (valueOf outputName text))) Agreed Differed)
+    (cond (agrees function message (bytesOf (valueOf outputName text))) Agreed Differed)
     (Malformed (length text))
 
 -- the digits tell a message of so many bytes, for which there is room; the empty message is written 00
@@ -58,10 +59,10 @@ abbrev pub messageIn : (bytes : ℕ) (digits out : List ℕ) → List ℕ
 messageIn bytes digits out = cond (eqb bytes 0) out (written (decoded digits) out)
 
 -- the lines `Msg = `, of so many bytes, and `Output = `
-unfoldable pub judgedMessage : (bytes size : ℕ) (text : List ℕ) → Verdict
-judgedMessage bytes size text =
+unfoldable pub judgedMessage : (function : Function) (bytes size : ℕ) (text : List ℕ) → Verdict
+judgedMessage function bytes size text =
     cond (isMessage most bytes (valueOf messageName text))
-    (judged (take bytes (bytesOf (valueOf messageName text))) size (afterLine text))
+    (judged function (take bytes (bytesOf (valueOf messageName text))) size (afterLine text))
     (Malformed (length text))
 
 -- an output that has the wrong length
@@ -71,9 +72,11 @@ differing Differed = Differed
 differing (Malformed left) = Malformed left
 
 -- the line `Output = `, of size bytes, by a turn of the chain
-unfoldable pub judgedTurn : (chain : Chain) (size : ℕ) (text : List ℕ) → Verdict
-judgedTurn chain size text =
-    cond (eqb size (outputSize (chain .extra))) (judged (chain .message) size text) (differing (judged (chain .message) size text))
+unfoldable pub judgedTurn : (function : Function) (chain : Chain) (size : ℕ) (text : List ℕ) → Verdict
+judgedTurn function chain size text =
+    cond (eqb size (outputSize function (chain .extra)))
+    (judged function (chain .message) size text)
+    (differing (judged function (chain .message) size text))
 
 -- the lines that follow a length, if there is one
 abbrev pub withLength : (length : Number) (left : ℕ) → (ℕ → Verdict) → Verdict
@@ -81,26 +84,27 @@ withLength (Value n) left judge = judge n
 withLength Missing left judge = Malformed left
 
 -- the lines after `Outputlen = `, of a file whose messages have `number` bytes or come from the chain
-abbrev pub judgedOutput : (kind : Kind) (number : ℕ) (chain : Chain) (size : ℕ) (text : List ℕ) → Verdict
-judgedOutput Length number chain size text = judgedMessage number size text
-judgedOutput Output number chain size text = judgedMessage number size text
-judgedOutput Monte number chain size text = judgedTurn chain size text
+abbrev pub judgedOutput : (function : Function) (kind : Kind) (number : ℕ) (chain : Chain) (size : ℕ) (text : List ℕ) → Verdict
+judgedOutput function Length number chain size text = judgedMessage function number size text
+judgedOutput function Output number chain size text = judgedMessage function number size text
+judgedOutput function Monte number chain size text = judgedTurn function chain size text
 
 -- COUNT, Outputlen, and the lines after them
-unfoldable pub judgedCounted : (kind : Kind) (number count : ℕ) (chain : Chain) (text : List ℕ) → Verdict
-judgedCounted kind number count chain text =
+unfoldable pub judgedCounted : (function : Function) (kind : Kind) (number count : ℕ) (chain : Chain) (text : List ℕ) → Verdict
+judgedCounted function kind number count chain text =
     cond (isCount count text)
     (withLength (lengthField outputLengthName (afterLine text)) (length (afterLine text))
-    (λ size. judgedOutput kind number chain size (afterLine (afterLine text))))
+    (λ size. judgedOutput function kind number chain size (afterLine (afterLine text))))
     (Malformed (length text))
 
 -- Len, Msg, Output
-unfoldable pub judgedLength : (size : ℕ) (text : List ℕ) → Verdict
-judgedLength size text = withLength (lengthField lengthName text) (length text) (λ bytes. judgedMessage bytes size (afterLine text))
+unfoldable pub judgedLength : (function : Function) (size : ℕ) (text : List ℕ) → Verdict
+judgedLength function size text =
+    withLength (lengthField lengthName text) (length text) (λ bytes. judgedMessage function bytes size (afterLine text))
 
 -- One case of a file. `number` is the length that the file's header gives: of every output in files by the length of the message, and of
 -- every message in files by the length of the output. The chain stands before the last turn of the case.
-abbrev pub judgedCase : (kind : Kind) (number count : ℕ) (chain : Chain) (text : List ℕ) → Verdict
-judgedCase Length number count chain text = judgedLength number text
-judgedCase Output number count chain text = judgedCounted Output number count chain text
-judgedCase Monte number count chain text = judgedCounted Monte number count chain text
+abbrev pub judgedCase : (function : Function) (kind : Kind) (number count : ℕ) (chain : Chain) (text : List ℕ) → Verdict
+judgedCase function Length number count chain text = judgedLength function number text
+judgedCase function Output number count chain text = judgedCounted function Output number count chain text
+judgedCase function Monte number count chain text = judgedCounted function Monte number count chain text

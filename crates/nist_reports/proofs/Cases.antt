@@ -9,6 +9,7 @@ use lib.Dec.{eqb}
 use lib.ListN.{length}
 use Rattle.response_files.specs.Lines.{afterLine, isBlank, lines, lineAt}
 use Rattle.response_files.proofs.Lines.{lines-more, lines-none, after-within}
+use Rattle.monte_chain.specs.declared.Function.{Function}
 use Rattle.monte_chain.specs.declared.Chain.{Chain}
 use Rattle.nist_cases.specs.declared.Kind.{Kind}
 use Rattle.nist_cases.specs.declared.Verdict.the-variants.{Agreed, Differed, Malformed}
@@ -48,35 +49,40 @@ module _ (kind : Kind) (text : List ℕ) (some : 0 < length text) where
 
 -- ---- the report on what is left of a body, after so many cases that agreed and that differed
 
-abbrev pub reportFrom : (kind : Kind) (number : ℕ) (text : List ℕ) (agreed differed : ℕ) (chain : Chain) (rest : List ℕ) → Report
-reportFrom kind number text agreed differed chain rest =
-    tally text agreed differed (verdicts kind number (agreed + differed) chain (casesAmong kind 0 (lines rest)))
+abbrev pub reportFrom : (function : Function) (kind : Kind) (number : ℕ) (text : List ℕ) (agreed differed : ℕ) (chain : Chain) (rest : List ℕ)
+    → Report
+reportFrom function kind number text agreed differed chain rest =
+    tally text agreed differed (verdicts function kind number (agreed + differed) chain (casesAmong kind 0 (lines rest)))
 
-module _ (kind : Kind) (number : ℕ) (text : List ℕ) (a d : ℕ) (chain : Chain) (rest : List ℕ) where
-  pub report-end : length rest ≡ 0 → reportFrom kind number text a d chain rest ≡ cond (eqb (a + d) 0) (MalformedLine (lineAt 0 text)) (Counts a d)
+module _ (function : Function) (kind : Kind) (number : ℕ) (text : List ℕ) (a d : ℕ) (chain : Chain) (rest : List ℕ) where
+  pub report-end : length rest ≡ 0
+      → reportFrom function kind number text a d chain rest ≡ cond (eqb (a + d) 0) (MalformedLine (lineAt 0 text)) (Counts a d)
   unfolding tally verdicts casesAmong
   report-end e = rw (lines-none rest e)
 
   module _ (some : 0 < length rest) where
-    pub report-blank : isBlank rest ≡ true → reportFrom kind number text a d chain rest ≡ reportFrom kind number text a d chain (afterLine rest)
+    pub report-blank : isBlank rest ≡ true
+        → reportFrom function kind number text a d chain rest ≡ reportFrom function kind number text a d chain (afterLine rest)
     report-blank e = rw (cases-blank kind rest some e)
 
     module _ (e : isBlank rest ≡ false) where
-      pub report-agreed : judgedCase kind number (a + d) chain rest ≡ Agreed
-          → reportFrom kind number text a d chain rest ≡ reportFrom kind number text (a + 1) d (nextChain kind chain) (afterCase kind rest)
+      pub report-agreed : judgedCase function kind number (a + d) chain rest ≡ Agreed
+          → reportFrom function kind number text a d chain rest
+          ≡ reportFrom function kind number text (a + 1) d (nextChain function kind chain) (afterCase kind rest)
       unfolding tally verdicts
       report-agreed v =
           let n : a + d + 1 ≡ a + 1 + d = omega arith in
           rw (cases-more kind rest some e, v, n)
 
-      pub report-differed : judgedCase kind number (a + d) chain rest ≡ Differed
-          → reportFrom kind number text a d chain rest ≡ reportFrom kind number text a (d + 1) (nextChain kind chain) (afterCase kind rest)
+      pub report-differed : judgedCase function kind number (a + d) chain rest ≡ Differed
+          → reportFrom function kind number text a d chain rest
+          ≡ reportFrom function kind number text a (d + 1) (nextChain function kind chain) (afterCase kind rest)
       unfolding tally verdicts
       report-differed v =
           let n : a + d + 1 ≡ a + (d + 1) = omega arith in
           rw (cases-more kind rest some e, v, n)
 
-      pub report-malformed : (left : ℕ) → judgedCase kind number (a + d) chain rest ≡ Malformed left
-          → reportFrom kind number text a d chain rest ≡ MalformedLine (lineAt left text)
+      pub report-malformed : (left : ℕ) → judgedCase function kind number (a + d) chain rest ≡ Malformed left
+          → reportFrom function kind number text a d chain rest ≡ MalformedLine (lineAt left text)
       unfolding tally verdicts
       report-malformed left v = rw (cases-more kind rest some e, v)

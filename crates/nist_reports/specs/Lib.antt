@@ -1,2 +1,2 @@
--- What the contracts of `nist_shake256` cite.
+-- What the contracts of `nist_shake` cite.
 pub mod Reports

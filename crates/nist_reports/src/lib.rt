@@ -1,7 +1,8 @@
-// What is reported of a response file of SHAKE256.
+// What is reported of a response file.
 ghost use mathlib.Core.Path.{_≡_};
 ghost use Rattle.nist_reports.specs.Reports.{afterCase, nextChain, reportOn, noChain, firstChain, isMonte, reportPlain, reportMonte, reportOf};
 use monte_chain::Chain;
+use monte_chain::Function;
 use nist_cases::Kind;
 use nist_cases::Verdict;
 use vectors::Report;
@@ -20,20 +21,27 @@ fn after_case(kind: Kind, text: &[u8]) -> &[u8]
     }
 }
 
-// The chain of the next case; only the Monte file has one.
-fn next_chain(kind: Kind, c: Chain) -> Chain
-    ensures { λ r. ⌜ r ≡ nextChain kind c ⌝ }
+// The chain of the next case; only a Monte file has one.
+fn next_chain(function: Function, kind: Kind, c: Chain) -> Chain
+    ensures { λ r. ⌜ r ≡ nextChain function kind c ⌝ }
 {
     match kind {
         Kind::Length => c,
         Kind::Output => c,
-        Kind::Monte => monte_chain::many_turns(c, 1000),
+        Kind::Monte => monte_chain::many_turns(function, c, 1000),
     }
 }
 
 // Judges the cases of a body. Lines are counted in the whole text.
-fn judge_cases(kind: Kind, text: &[u8], body: &[u8], number: usize, c: Chain) -> Report
-    ensures { λ r. ⌜ r ≡ reportOn kind number c (now (text .entry)) (now (body .entry)) ⌝ }
+fn judge_cases(
+    function: Function,
+    kind: Kind,
+    text: &[u8],
+    body: &[u8],
+    number: usize,
+    c: Chain,
+) -> Report
+    ensures { λ r. ⌜ r ≡ reportOn function kind number c (now (text .entry)) (now (body .entry)) ⌝ }
 {
     let mut rest = body;
     let mut c = c;
@@ -44,7 +52,7 @@ fn judge_cases(kind: Kind, text: &[u8], body: &[u8], number: usize, c: Chain) ->
             let next = response_files::after_line(rest);
             rest = next;
         } else {
-            match nist_cases::judge_case(kind, rest, number, agreed + differed, c) {
+            match nist_cases::judge_case(function, kind, rest, number, agreed + differed, c) {
                 Verdict::Agreed => {
                     agreed += 1;
                 }
@@ -55,7 +63,7 @@ fn judge_cases(kind: Kind, text: &[u8], body: &[u8], number: usize, c: Chain) ->
                     return Report::MalformedLine(response_files::line_number(text, left));
                 }
             }
-            let chain = next_chain(kind, c);
+            let chain = next_chain(function, kind, c);
             c = chain;
             let next = after_case(kind, rest);
             rest = next;
@@ -77,25 +85,29 @@ fn no_chain() -> Chain
 }
 
 // A file whose named header gives the length of all outputs or of all messages.
-fn judge_plain(kind: Kind, text: &[u8], name: &[u8]) -> Report
-    ensures { λ r. ⌜ r ≡ reportPlain kind (now (name .entry)) (now (text .entry)) ⌝ }
+fn judge_plain(function: Function, kind: Kind, text: &[u8], name: &[u8]) -> Report
+    ensures { λ r. ⌜ r ≡ reportPlain function kind (now (name .entry)) (now (text .entry)) ⌝ }
 {
     let body = response_files::body(text);
     let number = response_files::header_number(text, name);
     if number == 0 {
         return Report::MalformedLine(response_files::line_number(text, body.len()));
     }
-    judge_cases(kind, text, body, number, no_chain())
+    judge_cases(function, kind, text, body, number, no_chain())
 }
 
-// Whether the headers of the Monte file give the lengths 2 and 250, and a message of 16 bytes follows them.
-fn is_monte(text: &[u8], body: &[u8]) -> bool
-    ensures { λ r. ⌜ r ≡ isMonte (now (text .entry)) (now (body .entry)) ⌝ }
+// Whether the headers of a Monte file give the function's least and greatest sizes, and a message of 16 bytes follows them.
+fn is_monte(function: Function, text: &[u8], body: &[u8]) -> bool
+    ensures { λ r. ⌜ r ≡ isMonte function (now (text .entry)) (now (body .entry)) ⌝ }
 {
-    if response_files::header_number(text, b"[Minimum Output Length (bits) = ") != 2 {
+    if response_files::header_number(text, b"[Minimum Output Length (bits) = ")
+        != monte_chain::least_size(function)
+    {
         return false;
     }
-    if response_files::header_number(text, b"[Maximum Output Length (bits) = ") != 250 {
+    if response_files::header_number(text, b"[Maximum Output Length (bits) = ")
+        != monte_chain::greatest_size(function)
+    {
         return false;
     }
     let mut message = [0u8; 16];
@@ -103,30 +115,26 @@ fn is_monte(text: &[u8], body: &[u8]) -> bool
 }
 
 // The chain before the last turn of the first case.
-fn first_chain(digits: &[u8]) -> Chain
-    ensures { λ r. ⌜ r ≡ firstChain (now (digits .entry)) ⌝ }
+fn first_chain(function: Function, digits: &[u8]) -> Chain
+    ensures { λ r. ⌜ r ≡ firstChain function (now (digits .entry)) ⌝ }
 {
     let mut message = [0u8; 16];
     hex::decode(digits, &mut message);
-    monte_chain::many_turns(
-        Chain {
-            message,
-            extra: 248,
-        },
-        999,
-    )
+    let extra = monte_chain::greatest_size(function) - monte_chain::least_size(function);
+    monte_chain::many_turns(function, Chain { message, extra }, 999)
 }
 
-// The Monte file: the line `Msg = ` after the headers starts the chain.
-fn judge_monte(text: &[u8]) -> Report
-    ensures { λ r. ⌜ r ≡ reportMonte (now (text .entry)) ⌝ }
+// A Monte file: the line `Msg = ` after the headers starts the chain.
+fn judge_monte(function: Function, text: &[u8]) -> Report
+    ensures { λ r. ⌜ r ≡ reportMonte function (now (text .entry)) ⌝ }
 {
     let body = response_files::body(text);
-    if !is_monte(text, body) {
+    if !is_monte(function, text, body) {
         return Report::MalformedLine(response_files::line_number(text, body.len()));
     }
-    let chain = first_chain(response_files::value(body, b"Msg = "));
+    let chain = first_chain(function, response_files::value(body, b"Msg = "));
     judge_cases(
+        function,
         Kind::Monte,
         text,
         response_files::after_line(body),
@@ -135,12 +143,12 @@ fn judge_monte(text: &[u8]) -> Report
     )
 }
 
-pub fn judge_file(kind: Kind, text: &[u8]) -> Report
-    ensures { λ r. ⌜ r ≡ reportOf kind (now (text .entry)) ⌝ }
+pub fn judge_file(function: Function, kind: Kind, text: &[u8]) -> Report
+    ensures { λ r. ⌜ r ≡ reportOf function kind (now (text .entry)) ⌝ }
 {
     match kind {
-        Kind::Length => judge_plain(Kind::Length, text, b"[Outputlen = "),
-        Kind::Output => judge_plain(Kind::Output, text, b"[Input Length = "),
-        Kind::Monte => judge_monte(text),
+        Kind::Length => judge_plain(function, Kind::Length, text, b"[Outputlen = "),
+        Kind::Output => judge_plain(function, Kind::Output, text, b"[Input Length = "),
+        Kind::Monte => judge_monte(function, text),
     }
 }

@@ -8,10 +8,10 @@ use Rattle.monte_chain.proofs.many_turns.Statement.{statement}
 use Rattle.monte_chain.proofs.many_turns.Tie as tie
 
 abbrev Inv-loop : tie.InvT-loop
-Inv-loop n c₀ i₀ c i = (i ≤ n) × (c ≡ turns i c₀)
+Inv-loop function n c₀ i₀ c i = (i ≤ n) × (c ≡ turns function i c₀)
 
 abbrev μ-loop : tie.MeasureT-loop
-μ-loop n c₀ i₀ c i = n - i
+μ-loop function n c₀ i₀ c i = n - i
 
 loop-holds : tie.Need-loop-holds Inv-loop μ-loop
 unfolding turns
@@ -28,12 +28,12 @@ loop-less c = search needs
 
 loop-again : tie.Need-loop-again Inv-loop μ-loop
 unfolding turns
-loop-again c = (omega arith, rw add-one (c .turn .ensures ∙ ap turned (c .before .before .loop .inv .1)))
+loop-again c = (omega arith, rw add-one (c .turn .ensures ∙ ap (turned _) (c .before .before .loop .inv .1)))
 
 returns : tie.Need-returns Inv-loop μ-loop
 returns c =
     let e : c .before .loop .i ≡ c .before .before .args .n = omega arith in
-    c .before .loop .inv .1 ∙ ap (λ (k : ℕ). turns k (c .before .before .args .c)) e
+    c .before .loop .inv .1 ∙ ap (λ (k : ℕ). turns (c .before .before .args .function) k (c .before .before .args .c)) e
 
 pub many-turns-spec : {M : Type 1} → statement M
 many-turns-spec =

@@ -31,7 +31,8 @@ returns : tie.Need-returns
 returns c =
     let start = c .before .before .before .before .before .before in
     c .before .agrees-in .ensures .0
-    ∙ ap (λ (n : ℕ). same (outputOf (now (start .args .message)) n) (now (start .args .expected))) (lent (c .before .before .before))
+    ∙ ap (λ (n : ℕ). same (outputOf (start .args .function) (now (start .args .message)) n) (now (start .args .expected)))
+    (lent (c .before .before .before))
 
 pub agrees-spec : {M : Type 1} → statement M
 agrees-spec =

@@ -88,10 +88,12 @@ agrees-requires c κs =
 
 -- whether the output is the one told
 agreeing : (c : tie.After-agrees)
-    → agrees (now (start (c .before .before .before .before) .args .message)) (bytesOf (line (c .before .before .before .before))) ≡ c .agrees .result
+    → agrees (start (c .before .before .before .before) .args .function) (now (start (c .before .before .before .before) .args .message))
+    (bytesOf (line (c .before .before .before .before)))
+    ≡ c .agrees .result
 agreeing c =
     let read = c .before .before .before .before in
-    sym (c .agrees .ensures ∙ ap (agrees (now (start read .args .message))) (expected read (passed (c .before .before))))
+    sym (c .agrees .ensures ∙ ap (agrees (start read .args .function) (now (start read .args .message))) (expected read (passed (c .before .before))))
 
 returns-2 : tie.Need-returns-2
 unfolding judged

@@ -31,7 +31,7 @@ unfolding judgedLength
 returns-2 c =
     let read = c .before .before .before .before .before in
     rw (sym (read .length-field .ensures) ∙ c .before .before .before .bytes .given .1)
-    (c .judge-message .ensures ∙ ap (judgedMessage _ _) (c .before .after-line .ensures))
+    (c .judge-message .ensures ∙ ap (judgedMessage _ _ _) (c .before .after-line .ensures))
 
 pub judge-length-case-spec : {M : Type 1} → statement M
 judge-length-case-spec =

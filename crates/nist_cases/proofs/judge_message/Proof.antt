@@ -89,7 +89,8 @@ returns-2 c =
     let read = c .before .before .before .before .before in
     let e = passed (c .before .before .before) in
     rw (told read ∙ e)
-    (c .judge .ensures ∙ ap₂ (λ (m t : List ℕ). judged m (start read .args .size) t) (message read e) (c .before .before .after-line .ensures))
+    (c .judge .ensures
+    ∙ ap₂ (λ (m t : List ℕ). judged (start read .args .function) m (start read .args .size) t) (message read e) (c .before .before .after-line .ensures))
 
 pub judge-message-spec : {M : Type 1} → statement M
 judge-message-spec =

@@ -18,8 +18,8 @@ output-size-requires c κs = search needs
 returns : tie.Need-returns
 unfolding judgedTurn
 returns c =
-    let e : c .before .before .before .before .before .before .args .size ≡ outputSize (c .before .before .before .before .before .before .args .c .extra) =
-    c .if1 .taken ∙ c .before .output-size .ensures in
+    let args = c .before .before .before .before .before .before .args in
+    let e : args .size ≡ outputSize (args .function) (args .c .extra) = c .if1 .taken ∙ c .before .output-size .ensures in
     rw (eq-eqb _ _ e) (c .before .before .judge .ensures)
 
 differing-requires : tie.Need-differing-requires
@@ -28,8 +28,9 @@ differing-requires c κs = search needs
 returns-2 : tie.Need-returns-2
 unfolding judgedTurn
 returns-2 c =
-    let start = c .before .before .before .before .before .before .before in
-    let n : (start .args .size ≡ outputSize (start .args .c .extra)) → ⊥ = λ e. c .before .if1 .left (e ∙ sym (c .before .before .output-size .ensures)) in
+    let args = c .before .before .before .before .before .before .before .args in
+    let n : (args .size ≡ outputSize (args .function) (args .c .extra)) → ⊥ =
+    λ e. c .before .if1 .left (e ∙ sym (c .before .before .output-size .ensures)) in
     rw (ne-eqb _ _ n) (c .differing .ensures ∙ ap differing (c .before .before .before .judge .ensures))
 
 pub judge-turn-spec : {M : Type 1} → statement M

@@ -17,12 +17,12 @@ use Rattle.nist_reports.proofs.judge_cases.Statement.{statement}
 use Rattle.nist_reports.proofs.judge_cases.Tie as tie
 
 abbrev Inv-loop : tie.InvT-loop
-Inv-loop kind text body number rest₀ c₀ agreed₀ differed₀ rest c agreed differed =
+Inv-loop function kind text body number rest₀ c₀ agreed₀ differed₀ rest c agreed differed =
     (agreed + differed + length rest ≤ length body)
-    × (reportFrom kind number text agreed differed c rest ≡ reportOn kind number c₀ text body)
+    × (reportFrom function kind number text agreed differed c rest ≡ reportOn function kind number c₀ text body)
 
 abbrev μ-loop : tie.MeasureT-loop
-μ-loop kind text body number rest₀ c₀ agreed₀ differed₀ rest c agreed differed = length rest
+μ-loop function kind text body number rest₀ c₀ agreed₀ differed₀ rest c agreed differed = length rest
 
 loop-holds : tie.Need-loop-holds Inv-loop μ-loop
 unfolding reportOn
@@ -43,7 +43,7 @@ loop-again c =
     let rest = now (at-loop .loop .rest) in
     let blank = sym (c .before .before .is-blank .ensures) ∙ c .before .if1 .taken in
     rw (c .after-line .ensures)
-    (omega (arith, after-within rest), sym (report-blank _ _ _ _ _ _ _ (c .before .before .before .loop-test .taken) blank) ∙ at-loop .loop .inv .1)
+    (omega (arith, after-within rest), sym (report-blank _ _ _ _ _ _ _ _ (c .before .before .before .loop-test .taken) blank) ∙ at-loop .loop .inv .1)
 
 add-judge-case : tie.Need-add-judge-case Inv-loop μ-loop
 add-judge-case c = search needs
@@ -75,7 +75,9 @@ returns c =
     let some = judged .before .before .before .loop-test .taken in
     let blank = sym (judged .before .before .is-blank .ensures) ∙ judged .before .if1 .left in
     let bad = sym (judged .judge-case .ensures) ∙ c .before .before .left .given .1 in
-    ap MalformedLine (c .line-number .ensures) ∙ sym (report-malformed _ _ _ _ _ _ _ some blank _ bad) ∙ judged .before .before .before .before .loop .inv .1
+    ap MalformedLine (c .line-number .ensures)
+    ∙ sym (report-malformed _ _ _ _ _ _ _ _ some blank _ bad)
+    ∙ judged .before .before .before .before .loop .inv .1
 
 next-chain-requires : tie.Need-next-chain-requires Inv-loop μ-loop
 next-chain-requires c κs = search needs
@@ -101,20 +103,21 @@ loop-again-2 c =
     let so-far = at-loop .loop .inv .1 in
     rw (c .after-case .ensures, c .before .next-chain .ensures)
     (⊎-elim
-    (λ w. rw (w .2, w .3) (omega arith, sym (report-agreed _ _ _ _ _ _ _ some blank (verdict ∙ w .1 .given .1)) ∙ so-far))
-    (λ w. rw (w .2, w .3) (omega arith, sym (report-differed _ _ _ _ _ _ _ some blank (verdict ∙ w .1 .given .1)) ∙ so-far))
+    (λ w. rw (w .2, w .3) (omega arith, sym (report-agreed _ _ _ _ _ _ _ _ some blank (verdict ∙ w .1 .given .1)) ∙ so-far))
+    (λ w. rw (w .2, w .3) (omega arith, sym (report-differed _ _ _ _ _ _ _ _ some blank (verdict ∙ w .1 .given .1)) ∙ so-far))
     (c .before .before .match .came))
 
 -- the report where nothing is left
 ended : (c : tie.After-loop Inv-loop μ-loop)
-    → reportOn (c .before .before .before .before .args .kind) (c .before .before .before .before .args .number) (c .before .before .before .before .args .c)
+    → reportOn (c .before .before .before .before .args .function) (c .before .before .before .before .args .kind)
+    (c .before .before .before .before .args .number) (c .before .before .before .before .args .c)
     (now (c .before .before .before .before .args .text)) (now (c .before .before .before .before .args .body))
     ≡ cond (eqb (c .before .loop .agreed + c .before .loop .differed) 0)
     (MalformedLine (lineAt 0 (now (c .before .before .before .before .args .text))))
     (Counts (c .before .loop .agreed) (c .before .loop .differed))
 ended c =
     let none : length (now (c .before .loop .rest)) ≡ 0 = omega arith in
-    sym (c .before .loop .inv .1) ∙ report-end _ _ _ _ _ _ _ none
+    sym (c .before .loop .inv .1) ∙ report-end _ _ _ _ _ _ _ _ none
 
 add-if2 : tie.Need-add-if2 Inv-loop μ-loop
 add-if2 c = search needs
