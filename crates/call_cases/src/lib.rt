@@ -13,6 +13,7 @@ pub enum Call {
     Decapsulate,
     Seal,
     Open,
+    Shake128,
     Shake256,
 }
 
@@ -25,6 +26,10 @@ fn run(call: Call, x: &[u8], y: &[u8], z: &[u8], out: &mut [u8]) -> Answer
         Call::Decapsulate => opening::decapsulate(x, y, z, out),
         Call::Seal => sealing::seal(x, y, z, out),
         Call::Open => opening::open(x, y, z, out),
+        Call::Shake128 => {
+            shake::shake128(x, out);
+            Answer::Done
+        }
         Call::Shake256 => {
             shake::shake256(x, out);
             Answer::Done
@@ -40,6 +45,7 @@ pub fn size_field(call: Call) -> usize
         Call::Decapsulate => 3,
         Call::Seal => 3,
         Call::Open => 3,
+        Call::Shake128 => 1,
         Call::Shake256 => 1,
     }
 }

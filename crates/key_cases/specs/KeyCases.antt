@@ -7,26 +7,42 @@ use lib.Dec.{eqb}
 use lib.ListN.{length}
 use Rattle.answers.specs.declared.Answer.{Answer}
 use Rattle.answers.specs.Answers.{number}
-use Rattle.calls.specs.Calls.{checkAnswer, keygenAnswer, keygenPublic, keygenSecret}
+use Rattle.calls.specs.Calls.{checkAnswer, keygenAnswer, keygenPublic, keygenSecret, seededKeygenAnswer, seededKeygenPublic, seededKeygenSecret}
 use Rattle.vectors.specs.Fields.{word32, field}
 use Rattle.case_outputs.specs.Outputs.{answerAgrees?}
+use Rattle.key_cases.specs.declared.Source.{Source}
+use Rattle.key_cases.specs.declared.Source.the-variants.{Stream, Seed}
 
 abbrev pub checkAgrees? : List ℕ → Bool
 checkAgrees? text = eqb (number (checkAnswer (field 0 text))) (word32 (field 1 text))
 
--- what keygen answered and wrote is what is told
+-- ---- key making, by its first input
+
+abbrev pub generationAnswer : (source : Source) (first s e : List ℕ) (public secret : ℕ) → Answer
+generationAnswer Stream first s e public secret = keygenAnswer first s e public secret
+generationAnswer Seed first s e public secret = seededKeygenAnswer first s e public secret
+
+abbrev pub generationPublic : (source : Source) (first s e public secret : List ℕ) → List ℕ
+generationPublic Stream first s e public secret = keygenPublic first s e public secret
+generationPublic Seed first s e public secret = seededKeygenPublic first s e public secret
+
+abbrev pub generationSecret : (source : Source) (first s e public secret : List ℕ) → List ℕ
+generationSecret Stream first s e public secret = keygenSecret first s e public secret
+generationSecret Seed first s e public secret = seededKeygenSecret first s e public secret
+
+-- what it answered and wrote is what is told
 abbrev pub keysAgree? : (text : List ℕ) (answer : Answer) (public secret : List ℕ) → Bool
 keysAgree? text answer public secret =
     answerAgrees? answer (word32 (field 5 text)) (field 7 text) public && answerAgrees? answer (word32 (field 5 text)) (field 8 text) secret
 
 -- the outputs after the call, where they hold `public` and `secret` before it
-unfoldable pub publicAfter : (text public secret : List ℕ) → List ℕ
-publicAfter text public secret = keygenPublic (field 0 text) (field 1 text) (field 2 text) public secret
+unfoldable pub publicAfter : (source : Source) (text public secret : List ℕ) → List ℕ
+publicAfter source text public secret = generationPublic source (field 0 text) (field 1 text) (field 2 text) public secret
 
-unfoldable pub secretAfter : (text public secret : List ℕ) → List ℕ
-secretAfter text public secret = keygenSecret (field 0 text) (field 1 text) (field 2 text) public secret
+unfoldable pub secretAfter : (source : Source) (text public secret : List ℕ) → List ℕ
+secretAfter source text public secret = generationSecret source (field 0 text) (field 1 text) (field 2 text) public secret
 
-unfoldable pub keygenAgrees? : (text public secret : List ℕ) → Bool
-keygenAgrees? text public secret =
-    keysAgree? text (keygenAnswer (field 0 text) (field 1 text) (field 2 text) (length public) (length secret)) (publicAfter text public secret)
-    (secretAfter text public secret)
+unfoldable pub keygenAgrees? : (source : Source) (text public secret : List ℕ) → Bool
+keygenAgrees? source text public secret =
+    keysAgree? text (generationAnswer source (field 0 text) (field 1 text) (field 2 text) (length public) (length secret))
+    (publicAfter source text public secret) (secretAfter source text public secret)

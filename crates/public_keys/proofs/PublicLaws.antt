@@ -118,7 +118,7 @@ module _ (k : List ℕ) where
           let kind = is-long size in (
             public-length (length k) .1 (inl size),
             long-record k kind ∙ record-done publicKeyMark 1 k .1
-            (record { has-mark = mark; has-version = version; first-words = rw (sym (long-a k kind)) (w .a-words); second-words = rw (sym (long-b k kind)) (w .b-words) }),
+                (record { has-mark = mark; has-version = version; first-words = rw (sym (long-a k kind)) (w .a-words); second-words = rw (sym (long-b k kind)) (w .b-words) }),
             long-stream k kind,
           )
       parts (inr ((size, mark, version), fills)) w =

@@ -20,7 +20,7 @@ use Rattle.reference_vectors.specs.declared.Kind.the-variants.{CheckSecr
 -- the last field of a case
 abbrev pub lastField : Kind → ℕ
 lastField CheckSecretKey = 2
-lastField Keygen = 8
+lastField (Keygen source) = 8
 lastField (Writing call) = sizeField call + 3
 lastField Noise = 3
 lastField Desk = 3
@@ -45,7 +45,7 @@ deskAgrees? text = same? (withoutFeed (deskLine (field 0 text))) (field 3 text)
 
 abbrev pub agrees? : Kind → List ℕ → Bool
 agrees? CheckSecretKey text = checkAgrees? text
-agrees? Keygen text = keygenAgrees? text (output 3 text) (output 4 text)
+agrees? (Keygen source) text = keygenAgrees? source text (output 3 text) (output 4 text)
 agrees? (Writing call) text = callAgrees? call text (output (sizeField call) text)
 agrees? Noise text = noiseAgrees? text
 agrees? Desk text = deskAgrees? text

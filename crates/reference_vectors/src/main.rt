@@ -7,13 +7,14 @@ ghost use Rattle.vectors.specs.Answers.{report};
 ghost use Rattle.reference_vectors.specs.Cases.{lastField};
 ghost use Rattle.reference_vectors.specs.Cases.{residueOf, noiseAgrees?, deskAgrees?, agrees?, verdict};
 use call_cases::Call;
+use key_cases::Source;
 use vectors::Report;
 use vectors::Verdict;
 
 // What the cases of a file are of.
 enum Kind {
     CheckSecretKey,
-    Keygen,
+    Keygen(Source),
     Writing(Call),
     Noise,
     Desk,
@@ -56,7 +57,7 @@ fn last_field(kind: Kind) -> usize
 {
     match kind {
         Kind::CheckSecretKey => 2,
-        Kind::Keygen => 8,
+        Kind::Keygen(_) => 8,
         Kind::Writing(call) => call_cases::size_field(call) + 3,
         Kind::Noise => 3,
         Kind::Desk => 3,
@@ -68,7 +69,7 @@ fn agrees(kind: Kind, text: &[u8]) -> bool
 {
     match kind {
         Kind::CheckSecretKey => key_cases::check_agrees(text),
-        Kind::Keygen => key_cases::keygen_case_agrees(text),
+        Kind::Keygen(source) => key_cases::keygen_case_agrees(source, text),
         Kind::Writing(call) => call_cases::call_case_agrees(call, text),
         Kind::Noise => noise_agrees(text),
         Kind::Desk => desk_agrees(text),
@@ -109,7 +110,8 @@ fn check_file(kind: Kind, name: &[u8]) {
 }
 
 fn check_key_files() {
-    check_file(Kind::Keygen, b"keygen.bin");
+    check_file(Kind::Keygen(Source::Stream), b"keygen.bin");
+    check_file(Kind::Keygen(Source::Seed), b"keygen_from_seed.bin");
     check_file(Kind::CheckSecretKey, b"check_secret_key.bin");
 }
 
@@ -120,6 +122,7 @@ fn check_call_files() {
     check_file(Kind::Writing(Call::Open), b"open.bin");
     // Entries that were sealed before the noise was read as it is now.
     check_file(Kind::Writing(Call::Open), b"open_sealed_before.bin");
+    check_file(Kind::Writing(Call::Shake128), b"shake128.bin");
     check_file(Kind::Writing(Call::Shake256), b"shake256.bin");
 }
 

@@ -1,6 +1,6 @@
 use mathlib.Core.Path.{refl}
 use denote.Ref.{now}
-use Rattle.call_cases.specs.declared.Call.the-variants.{Encapsulate, Decapsulate, Seal, Open, Shake256}
+use Rattle.call_cases.specs.declared.Call.the-variants.{Encapsulate, Decapsulate, Seal, Open, Shake128, Shake256}
 use Rattle.call_cases.proofs.Calls.{called}
 use borrow.Author.Needs.{needs}
 use Rattle.call_cases.proofs.run.Statement.{statement}
@@ -32,6 +32,12 @@ open-requires c κs = search needs
 
 enum-told-5 : tie.Need-enum-told-5
 enum-told-5 c = search needs
+
+shake128-requires : tie.Need-shake128-requires
+shake128-requires c κs = search needs
+
+enum-told-6 : tie.Need-enum-told-6
+enum-told-6 c = search needs
 
 shake256-requires : tie.Need-shake256-requires
 shake256-requires c κs = search needs
@@ -74,7 +80,15 @@ same-length-5 c = search needs
 returns-5 : tie.Need-returns-5
 returns-5 c =
     let args = c .before .before .before .before .before .before .before .before .before .before .args in
-    called Shake256 (now (args .x)) (now (args .y)) (now (args .z)) (now (args .out)) (c .before .before .before .before .enum-told5 .given .1) (refl, c .before .before .shake256 .ensures)
+    called Shake128 (now (args .x)) (now (args .y)) (now (args .z)) (now (args .out)) (c .before .before .before .before .enum-told5 .given .1) (refl, c .before .before .shake128 .ensures)
+
+same-length-6 : tie.Need-same-length-6
+same-length-6 c = search needs
+
+returns-6 : tie.Need-returns-6
+returns-6 c =
+    let args = c .before .before .before .before .before .before .before .before .before .before .args in
+    called Shake256 (now (args .x)) (now (args .y)) (now (args .z)) (now (args .out)) (c .before .before .before .before .enum-told6 .given .1) (refl, c .before .before .shake256 .ensures)
 
 pub run-spec : {M : Type 1} → statement M
 run-spec =
@@ -89,6 +103,8 @@ run-spec =
     enum-told-4
     open-requires
     enum-told-5
+    shake128-requires
+    enum-told-6
     shake256-requires
     same-length
     returns
@@ -99,4 +115,6 @@ run-spec =
     same-length-4
     returns-4
     same-length-5
-    returns-5)
+    returns-5
+    same-length-6
+    returns-6)

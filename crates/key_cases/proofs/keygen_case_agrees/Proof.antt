@@ -45,9 +45,10 @@ returns c =
     let second = judged .before .before .before in
     let first = second .before in
     let secrets = first .before in
-    let text = now (secrets .before .before .before .args .text) in
+    let args = secrets .before .before .before .args in
+    let text = now (args .text) in
     judged .keygen-agrees .ensures .0
-    ∙ ap₂ (keygenAgrees? text)
+    ∙ ap₂ (keygenAgrees? (args .source) text)
     (filled-output 3 text (first .room .ensures .0) (secrets .before .output-buffer .ensures))
     (filled-output 4 text (second .room2 .ensures .0) (secrets .output-buffer2 .ensures))
 

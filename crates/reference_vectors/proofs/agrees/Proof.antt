@@ -8,26 +8,26 @@ enum-told c = search needs
 check-agrees-requires : tie.Need-check-agrees-requires
 check-agrees-requires c κs = search needs
 
-enum-told-2 : tie.Need-enum-told-2
-enum-told-2 c = search needs
+enum-known-kind : tie.Need-enum-known-kind
+enum-known-kind c = search needs
 
 keygen-case-agrees-requires : tie.Need-keygen-case-agrees-requires
 keygen-case-agrees-requires c κs = search needs
 
-enum-known-kind : tie.Need-enum-known-kind
-enum-known-kind c = search needs
+enum-known-kind-2 : tie.Need-enum-known-kind-2
+enum-known-kind-2 c = search needs
 
 call-case-agrees-requires : tie.Need-call-case-agrees-requires
 call-case-agrees-requires c κs = search needs
 
-enum-told-3 : tie.Need-enum-told-3
-enum-told-3 c = search needs
+enum-told-2 : tie.Need-enum-told-2
+enum-told-2 c = search needs
 
 noise-agrees-requires : tie.Need-noise-agrees-requires
 noise-agrees-requires c κs = search needs
 
-enum-told-4 : tie.Need-enum-told-4
-enum-told-4 c = search needs
+enum-told-3 : tie.Need-enum-told-3
+enum-told-3 c = search needs
 
 desk-agrees-requires : tie.Need-desk-agrees-requires
 desk-agrees-requires c κs = search needs
@@ -36,16 +36,16 @@ returns : tie.Need-returns
 returns c = rw (c .before .enum-told .given .1) (c .check-agrees .ensures)
 
 returns-2 : tie.Need-returns-2
-returns-2 c = rw (c .before .enum-told2 .given .1) (c .keygen-case-agrees .ensures)
+returns-2 c = rw (c .before .before .kind .given .1) (c .keygen-case-agrees .ensures)
 
 returns-3 : tie.Need-returns-3
-returns-3 c = rw (c .before .before .kind .given .1) (c .call-case-agrees .ensures)
+returns-3 c = rw (c .before .before .kind2 .given .1) (c .call-case-agrees .ensures)
 
 returns-4 : tie.Need-returns-4
-returns-4 c = rw (c .before .enum-told3 .given .1) (c .noise-agrees .ensures)
+returns-4 c = rw (c .before .enum-told2 .given .1) (c .noise-agrees .ensures)
 
 returns-5 : tie.Need-returns-5
-returns-5 c = rw (c .before .enum-told4 .given .1) (c .desk-agrees .ensures)
+returns-5 c = rw (c .before .enum-told3 .given .1) (c .desk-agrees .ensures)
 
 pub agrees-spec : {M : Type 1} → statement M
 agrees-spec =
@@ -53,13 +53,13 @@ agrees-spec =
     (tie.spec
     enum-told
     check-agrees-requires
-    enum-told-2
-    keygen-case-agrees-requires
     enum-known-kind
+    keygen-case-agrees-requires
+    enum-known-kind-2
     call-case-agrees-requires
-    enum-told-3
+    enum-told-2
     noise-agrees-requires
-    enum-told-4
+    enum-told-3
     desk-agrees-requires
     returns
     returns-2
