@@ -1,16 +1,17 @@
 /* POLKA at 1,024 coefficients with SHAKE256: the calls of the proved library libpolka.a.
  *
- * A desk makes a key pair (polka_keygen); a console seals 16-byte entries under the public key (polka_seal); the desk opens them
- * (polka_open). polka_encapsulate and polka_decapsulate are the scheme without an entry.
+ * A desk makes a key pair (polka_keygen, or polka_keygen_from_seed for a public key half as long); a console seals 16-byte entries under
+ * the public key (polka_seal); the desk opens them (polka_open). polka_encapsulate and polka_decapsulate are the scheme without an entry.
  *
  * For all calls:
  * - A buffer is a pointer and its length in bytes. The pointer is not null, also where the length is 0.
- * - Every call looks at all lengths first, and refuses another length than the one named here.
+ * - Every call looks at all lengths first, and refuses another length than named here.
  * - An output may overlap no other buffer of the call, input or output. Inputs may overlap each other.
  * - The answer is one of enum polka_answer. Under any answer but POLKA_DONE every output byte is as it was before the call.
  * - Under POLKA_DONE every byte of every output is written.
  * - The library keeps no state: calls may run at the same time on several threads.
- * - It draws no random bytes: streams and noise come from the caller. They must be uniform and new for every call, and noise is secret.
+ * - It draws no random bytes: streams, seeds and noise come from the caller. They must be uniform and new for every call, and noise is
+ *   secret.
  * - The caller overwrites secrets that are no longer needed.
  * - It needs memcpy and memset of its surroundings and nothing else: no heap, no system call.
  *
@@ -26,11 +27,13 @@
 /* The version of these declarations. The minor number rises with each change that callers can see, and until there is a major one such a
  * change may be a break.
  * 0.2: four bits of noise, t0 the lowest, give t0 - t1 + t2 - t3, where 2 becomes -1 and -2 becomes 1. It was t0 + t1 - t2 - t3. So the same
- * bytes make another key and another sealed entry; what was made before still opens. */
+ * bytes make another key and another sealed entry; what was made before still opens.
+ * 0.3: adds polka_shake128, polka_keygen_from_seed and the seeded public key, which polka_seal and polka_encapsulate take too. A key of its
+ * length was POLKA_WRONG_LENGTH before. */
 #define POLKA_VERSION_MAJOR 0
-#define POLKA_VERSION_MINOR 2
+#define POLKA_VERSION_MINOR 3
 #define POLKA_VERSION_PATCH 0
-#define POLKA_VERSION "0.2.0"
+#define POLKA_VERSION "0.3.0"
 
 /* The compiler warns where an answer is not looked at. */
 #if (defined(__cplusplus) && __cplusplus >= 201703L) || (defined(__STDC_VERSION__) && __STDC_VERSION__ >= 202311L)
@@ -45,25 +48,29 @@
 extern "C" {
 #endif
 
-/* Lengths in bytes. The word of document 01, the buyer's scope, is in brackets where it is another. */
-#define POLKA_PUBLIC_KEY_LENGTH 4101     /* "PDK", version, a, b */
-#define POLKA_SECRET_KEY_LENGTH 4357     /* "SDK", version, a, b, s (desk key) */
-#define POLKA_SEALED_ENTRY_LENGTH 4133   /* "PLG", version, c1, c2, body, tag */
-#define POLKA_ENCAPSULATION_LENGTH 4096  /* c1, c2 (bare capsule) */
-#define POLKA_TRIPLE_LENGTH 768          /* r, e1, e2, two bits a coefficient */
-#define POLKA_ENTRY_LENGTH 16            /* what is sealed */
-#define POLKA_UNIFORM_STREAM_LENGTH 2688 /* random bytes for a (lent stream) */
-#define POLKA_KEY_NOISE_LENGTH 512       /* random bytes for s, or for e */
-#define POLKA_TRIPLE_NOISE_LENGTH 1536   /* random bytes for a triple: of a sealing, or the dummy of an opening */
+/* Lengths in bytes. The word of documents 01 and 02, the buyer's scope and change requests, is in brackets where it is another. */
+#define POLKA_PUBLIC_KEY_LENGTH 4101        /* "PDK", version, a, b */
+#define POLKA_SEEDED_PUBLIC_KEY_LENGTH 2085 /* "PDS", version, seed, b (short key) */
+#define POLKA_SECRET_KEY_LENGTH 4357        /* "SDK", version, a, b, s (desk key) */
+#define POLKA_SEALED_ENTRY_LENGTH 4133      /* "PLG", version, c1, c2, body, tag */
+#define POLKA_ENCAPSULATION_LENGTH 4096     /* c1, c2 (bare capsule) */
+#define POLKA_TRIPLE_LENGTH 768             /* r, e1, e2, two bits a coefficient */
+#define POLKA_ENTRY_LENGTH 16               /* what is sealed */
+#define POLKA_UNIFORM_STREAM_LENGTH 2688    /* random bytes for a (lent stream) */
+#define POLKA_SEED_LENGTH 32                /* random bytes that stand for a: SHAKE128 makes the stream of them */
+#define POLKA_KEY_NOISE_LENGTH 512          /* random bytes for s, or for e */
+#define POLKA_TRIPLE_NOISE_LENGTH 1536      /* random bytes for a triple: of a sealing, or the dummy of an opening */
 
 /* The stack that each call takes at most, in bytes, what memcpy and memset take aside. Measured, not proved: tests/stack.sh fails where a
  * call takes more. No call takes more for longer input. */
 #define POLKA_KEYGEN_STACK (51 * 1024)
+#define POLKA_KEYGEN_FROM_SEED_STACK (0 * 1024)
 #define POLKA_CHECK_SECRET_KEY_STACK (57 * 1024)
 #define POLKA_ENCAPSULATE_STACK (63 * 1024)
 #define POLKA_DECAPSULATE_STACK (101 * 1024)
 #define POLKA_SEAL_STACK (65 * 1024)
 #define POLKA_OPEN_STACK (97 * 1024)
+#define POLKA_SHAKE128_STACK (0 * 1024)
 #define POLKA_SHAKE256_STACK (2 * 1024)
 
 /* What the calls answer, with document 01's word. */
@@ -90,15 +97,24 @@ uint32_t polka_keygen(const uint8_t *stream, size_t stream_length,    /* POLKA_U
                       uint8_t *public_key, size_t public_key_length,  /* POLKA_PUBLIC_KEY_LENGTH, written */
                       uint8_t *secret_key, size_t secret_key_length); /* POLKA_SECRET_KEY_LENGTH, written */
 
+/* Makes a key pair whose public key holds a seed in place of a. The secret key is like any other. It tries once, as polka_keygen does.
+ * Answers 0; 1, 8, 6, in this order. */
+POLKA_ANSWER
+uint32_t polka_keygen_from_seed(const uint8_t *seed, size_t seed_length,        /* POLKA_SEED_LENGTH */
+                                const uint8_t *noise_s, size_t noise_s_length,  /* POLKA_KEY_NOISE_LENGTH */
+                                const uint8_t *noise_e, size_t noise_e_length,  /* POLKA_KEY_NOISE_LENGTH */
+                                uint8_t *public_key, size_t public_key_length,  /* POLKA_SEEDED_PUBLIC_KEY_LENGTH, written */
+                                uint8_t *secret_key, size_t secret_key_length); /* POLKA_SECRET_KEY_LENGTH, written */
+
 /* Whether a secret key is sound. Both openings make this check themselves.
  * Answers 0; 1, 2, 3, 4, 5, 6, 7. */
 POLKA_ANSWER
 uint32_t polka_check_secret_key(const uint8_t *secret_key, size_t secret_key_length); /* POLKA_SECRET_KEY_LENGTH */
 
-/* The encapsulation of a triple (capsule making).
- * Answers 0; 1; for the key 2, 3, 4, 6; for the triple 5. */
+/* The encapsulation of a triple (capsule making). The length of the public key tells its record; the other record's mark is then 2.
+ * Answers 0; 1; for the key 2, 3, 4, 8 (of a seed), 6; for the triple 5. */
 POLKA_ANSWER
-uint32_t polka_encapsulate(const uint8_t *public_key, size_t public_key_length,  /* POLKA_PUBLIC_KEY_LENGTH */
+uint32_t polka_encapsulate(const uint8_t *public_key, size_t public_key_length,  /* POLKA_PUBLIC_KEY_LENGTH, or that of a seeded one */
                            const uint8_t *triple, size_t triple_length,          /* POLKA_TRIPLE_LENGTH */
                            uint8_t *encapsulation, size_t encapsulation_length); /* POLKA_ENCAPSULATION_LENGTH, written */
 
@@ -110,10 +126,11 @@ uint32_t polka_decapsulate(const uint8_t *secret_key, size_t secret_key_length, 
                            const uint8_t *dummy, size_t dummy_length,                 /* POLKA_TRIPLE_LENGTH */
                            uint8_t *triple, size_t triple_length);                    /* POLKA_TRIPLE_LENGTH, written */
 
-/* Seals an entry. The noise is the whole secret of this one sealing.
- * Answers 0; 1; for the key 2, 3, 4, 6. */
+/* Seals an entry. The noise is the whole secret of this one sealing. The public key is judged as by polka_encapsulate; equal a and b give
+ * equal bytes under both records.
+ * Answers 0; 1; for the key 2, 3, 4, 8 (of a seed), 6. */
 POLKA_ANSWER
-uint32_t polka_seal(const uint8_t *public_key, size_t public_key_length, /* POLKA_PUBLIC_KEY_LENGTH */
+uint32_t polka_seal(const uint8_t *public_key, size_t public_key_length, /* POLKA_PUBLIC_KEY_LENGTH, or that of a seeded one */
                     const uint8_t *noise, size_t noise_length,           /* POLKA_TRIPLE_NOISE_LENGTH */
                     const uint8_t *entry, size_t entry_length,           /* POLKA_ENTRY_LENGTH */
                     uint8_t *sealed, size_t sealed_length);              /* POLKA_SEALED_ENTRY_LENGTH, written */
@@ -126,7 +143,9 @@ uint32_t polka_open(const uint8_t *secret_key, size_t secret_key_length,   /* PO
                     const uint8_t *dummy_noise, size_t dummy_noise_length, /* POLKA_TRIPLE_NOISE_LENGTH */
                     uint8_t *entry, size_t entry_length);                  /* POLKA_ENTRY_LENGTH, written */
 
-/* The first output_length bytes of SHAKE256 of the input. Both lengths are free; it refuses nothing. */
+/* The first output_length bytes of SHAKE128, or of SHAKE256, of the input. Both lengths are free; they refuse nothing. */
+void polka_shake128(const uint8_t *input, size_t input_length,
+                    uint8_t *output, size_t output_length);
 void polka_shake256(const uint8_t *input, size_t input_length,
                     uint8_t *output, size_t output_length);
 

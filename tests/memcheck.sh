@@ -3,7 +3,7 @@
 #   1. On all vectors: no read or write outside a buffer, no use of an undefined byte, no leak. Fails on any.
 #   2. With secrets marked undefined: lists by function each branch and each address that hangs on a secret, and fails where
 #      tests/memcheck/allowed.txt does not list it with its reason. Memcheck sees the path of one run: this is a test, not a proof.
-# usage: tests/memcheck.sh [CALL..]     calls for part 2; without any: all seven
+# usage: tests/memcheck.sh [CALL..]     calls for part 2, as tests/drivers/secrets.c names them; without any: all
 #        needs Debian's valgrind and gcc; POLKA_VECTORS names the folder of the vectors
 set -euo pipefail
 
@@ -58,9 +58,10 @@ by_function() {
 }
 
 calls=("$@")
-[ "${#calls[@]}" -gt 0 ] || calls=(keygen check_secret_key encapsulate decapsulate seal open shake256)
+[ "${#calls[@]}" -gt 0 ] || calls=(keygen keygen_from_seed check_secret_key encapsulate encapsulate_seeded decapsulate
+    seal seal_seeded open shake128 shake256)
 for call in "${calls[@]}"; do
-    echo "memcheck with the secrets of polka_$call marked undefined"
+    echo "memcheck with the secrets of $call marked undefined"
     if ! valgrind -s --track-origins=yes --error-limit=no --num-callers=6 "$room/secrets" "$call" >"$room/stdout" 2>"$room/report"; then
         cat "$room/stdout" "$room/report"
         echo "WRONG: the driver failed"

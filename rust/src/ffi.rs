@@ -17,6 +17,18 @@ mod archive {
             secret_key: *mut u8,
             secret_key_length: usize,
         ) -> u32;
+        pub fn polka_keygen_from_seed(
+            seed: *const u8,
+            seed_length: usize,
+            noise_s: *const u8,
+            noise_s_length: usize,
+            noise_e: *const u8,
+            noise_e_length: usize,
+            public_key: *mut u8,
+            public_key_length: usize,
+            secret_key: *mut u8,
+            secret_key_length: usize,
+        ) -> u32;
         pub fn polka_check_secret_key(secret_key: *const u8, secret_key_length: usize) -> u32;
         pub fn polka_encapsulate(
             public_key: *const u8,
@@ -56,6 +68,7 @@ mod archive {
             entry: *mut u8,
             entry_length: usize,
         ) -> u32;
+        pub fn polka_shake128(input: *const u8, input_length: usize, out: *mut u8, out_length: usize);
         pub fn polka_shake256(input: *const u8, input_length: usize, out: *mut u8, out_length: usize);
     }
 }
@@ -68,6 +81,23 @@ pub fn keygen(stream: &[u8], noise_s: &[u8], noise_e: &[u8], public_key: &mut [u
         archive::polka_keygen(
             stream.as_ptr(),
             stream.len(),
+            noise_s.as_ptr(),
+            noise_s.len(),
+            noise_e.as_ptr(),
+            noise_e.len(),
+            public_key.as_mut_ptr(),
+            public_key.len(),
+            secret_key.as_mut_ptr(),
+            secret_key.len(),
+        )
+    }
+}
+
+pub fn keygen_from_seed(seed: &[u8], noise_s: &[u8], noise_e: &[u8], public_key: &mut [u8], secret_key: &mut [u8]) -> u32 {
+    unsafe {
+        archive::polka_keygen_from_seed(
+            seed.as_ptr(),
+            seed.len(),
             noise_s.as_ptr(),
             noise_s.len(),
             noise_e.as_ptr(),
@@ -140,6 +170,10 @@ pub fn open(secret_key: &[u8], sealed: &[u8], dummy_noise: &[u8], entry: &mut [u
             entry.len(),
         )
     }
+}
+
+pub fn shake128(input: &[u8], out: &mut [u8]) {
+    unsafe { archive::polka_shake128(input.as_ptr(), input.len(), out.as_mut_ptr(), out.len()) }
 }
 
 pub fn shake256(input: &[u8], out: &mut [u8]) {

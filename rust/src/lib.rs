@@ -1,11 +1,12 @@
 //! POLKA at 1,024 coefficients: safe Rust over the proved archive that `rt staticlib polka` writes.
 //!
-//! A desk makes a key pair ([`keygen`]); a console seals 16-byte entries under the public key ([`seal`]); the desk opens them ([`open`]).
-//! [`encapsulate`] and [`decapsulate`] are the scheme without an entry. Every call judges the records that it is lent, in the order that
-//! document 01, the buyer's scope, fixes, and answers [`Error`] at the first fault.
+//! A desk makes a key pair ([`keygen`], or [`keygen_from_seed`] for a public key half as long); a console seals 16-byte entries under the
+//! public key ([`seal`]); the desk opens them ([`open`]). [`encapsulate`] and [`decapsulate`] are the scheme without an entry. Every call
+//! judges the records that it is lent, in the order that documents 01 and 02, the buyer's scope and change requests, fix, and answers
+//! [`Error`] at the first fault.
 //!
-//! The library draws no random bytes. Streams and noise come from the caller and must be uniform and new each time. Noise is secret too:
-//! it is taken by value and cannot be copied, so that none is used twice by accident.
+//! The library draws no random bytes. Streams, seeds and noise come from the caller and must be uniform and new each time. Noise is secret
+//! too: it is taken by value and cannot be copied, so that none is used twice by accident.
 //!
 //! ```
 //! use std::fs::File;
@@ -57,7 +58,10 @@ mod ffi;
 mod records;
 
 pub use error::Error;
-pub use records::{Encapsulation, Entry, KeyNoise, PublicKey, SealedEntry, SecretKey, Triple, TripleNoise, UniformStream};
+pub use records::{
+    Encapsulation, Entry, KeyNoise, PublicKey, PublicRecord, SealedEntry, SecretKey, Seed, SeededPublicKey, Triple, TripleNoise,
+    UniformStream,
+};
 
 /// Makes a key pair. It tries once: [`Error::StreamExhausted`] and [`Error::NotInvertible`] call for new bytes.
 pub fn keygen(stream: &UniformStream, noise_s: KeyNoise, noise_e: KeyNoise) -> Result<(PublicKey, SecretKey), Error> {
@@ -73,15 +77,56 @@ pub fn keygen(stream: &UniformStream, noise_s: KeyNoise, noise_e: KeyNoise) -> R
     Ok((public_key, secret_key))
 }
 
+/// Makes a key pair whose public key is half as long, since it holds a seed in place of a. The secret key is like any other. It tries once:
+/// [`Error::StreamExhausted`] and [`Error::NotInvertible`] call for new bytes.
+///
+/// ```
+/// use std::fs::File;
+/// use std::io::Read;
+///
+/// use polka::{Entry, Error, KeyNoise, Seed, TripleNoise};
+///
+/// let mut random = File::open("/dev/urandom")?;
+/// let (public_key, secret_key) = loop {
+///     let seed = Seed::filled_by(|bytes| random.read_exact(bytes))?;
+///     let noise_s = KeyNoise::filled_by(|bytes| random.read_exact(bytes))?;
+///     let noise_e = KeyNoise::filled_by(|bytes| random.read_exact(bytes))?;
+///     match polka::keygen_from_seed(&seed, noise_s, noise_e) {
+///         Err(Error::NotInvertible | Error::StreamExhausted) => continue,
+///         answer => break answer?,
+///     }
+/// };
+/// assert_eq!(public_key.as_bytes().len(), 2085);
+///
+/// // It seals as a long one does.
+/// let noise = TripleNoise::filled_by(|bytes| random.read_exact(bytes))?;
+/// let sealed = polka::seal(&public_key, noise, &Entry::from(b"lane 4, 00:47.52"))?;
+/// let dummy = TripleNoise::filled_by(|bytes| random.read_exact(bytes))?;
+/// assert_eq!(polka::open(&secret_key, &sealed, dummy)?.as_bytes(), b"lane 4, 00:47.52");
+/// # Ok::<(), Box<dyn std::error::Error>>(())
+/// ```
+pub fn keygen_from_seed(seed: &Seed, noise_s: KeyNoise, noise_e: KeyNoise) -> Result<(SeededPublicKey, SecretKey), Error> {
+    let mut public_key = SeededPublicKey::zeros();
+    let mut secret_key = SecretKey::zeros();
+    Error::judge(ffi::keygen_from_seed(
+        seed.as_bytes(),
+        noise_s.as_bytes(),
+        noise_e.as_bytes(),
+        public_key.as_mut_bytes(),
+        secret_key.as_mut_bytes(),
+    ))?;
+    Ok((public_key, secret_key))
+}
+
 /// Whether a secret key is sound: b is a unit, and 5 × (a × s + e) for some ternary e.
 pub fn check_secret_key(secret_key: &SecretKey) -> Result<(), Error> {
     Error::judge(ffi::check_secret_key(secret_key.as_bytes()))
 }
 
-/// The encapsulation of a triple. Document 01 calls this capsule making.
-pub fn encapsulate(public_key: &PublicKey, triple: &Triple) -> Result<Encapsulation, Error> {
+/// The encapsulation of a triple under a public key of either record. Document 01 calls this capsule making.
+pub fn encapsulate(public_key: &(impl PublicRecord + ?Sized), triple: &Triple) -> Result<Encapsulation, Error> {
     let mut encapsulation = Encapsulation::zeros();
-    Error::judge(ffi::encapsulate(public_key.as_bytes(), triple.as_bytes(), encapsulation.as_mut_bytes()))?;
+    Error::judge(ffi::encapsulate(public_key.as_slice(), triple.as_bytes(), encapsulation.as_mut_bytes()))?;
     Ok(encapsulation)
 }
 
@@ -92,7 +137,8 @@ pub fn decapsulate(secret_key: &SecretKey, encapsulation: &Encapsulation, dummy:
     Ok(triple)
 }
 
-/// Seals an entry. The noise is the whole secret of this one sealing, and none is left for a second one:
+/// Seals an entry under a public key of either record. The noise is the whole secret of this one sealing, and none is left for a second
+/// one:
 ///
 /// ```compile_fail,E0382
 /// use polka::{Entry, PublicKey, TripleNoise};
@@ -102,9 +148,9 @@ pub fn decapsulate(secret_key: &SecretKey, encapsulation: &Encapsulation, dummy:
 ///     let second = polka::seal(key, noise, &entries[1]);
 /// }
 /// ```
-pub fn seal(public_key: &PublicKey, noise: TripleNoise, entry: &Entry) -> Result<SealedEntry, Error> {
+pub fn seal(public_key: &(impl PublicRecord + ?Sized), noise: TripleNoise, entry: &Entry) -> Result<SealedEntry, Error> {
     let mut sealed = SealedEntry::zeros();
-    Error::judge(ffi::seal(public_key.as_bytes(), noise.as_bytes(), entry.as_bytes(), sealed.as_mut_bytes()))?;
+    Error::judge(ffi::seal(public_key.as_slice(), noise.as_bytes(), entry.as_bytes(), sealed.as_mut_bytes()))?;
     Ok(sealed)
 }
 
@@ -113,6 +159,17 @@ pub fn open(secret_key: &SecretKey, sealed: &SealedEntry, dummy_noise: TripleNoi
     let mut entry = Entry::zeros();
     Error::judge(ffi::open(secret_key.as_bytes(), sealed.as_bytes(), dummy_noise.as_bytes(), entry.as_mut_bytes()))?;
     Ok(entry)
+}
+
+/// Fills `out` with the first bytes of SHAKE128 of `input`; both may have any length.
+///
+/// ```
+/// let mut out = [0; 4];
+/// polka::shake128(b"", &mut out);
+/// assert_eq!(out, [0x7f, 0x9c, 0x2b, 0xa4]);
+/// ```
+pub fn shake128(input: &[u8], out: &mut [u8]) {
+    ffi::shake128(input, out);
 }
 
 /// Fills `out` with the first bytes of SHAKE256 of `input`; both may have any length.

@@ -1,4 +1,4 @@
-//! Document 01's buffers as types that fix their lengths. They hold bytes of any content: each call judges what it is lent.
+//! The buffers of documents 01 and 02 as types that fix their lengths. They hold bytes of any content: each call judges what it is lent.
 use alloc::boxed::Box;
 use core::fmt;
 
@@ -118,6 +118,10 @@ public_bytes! {
     PublicKey, 4101
 }
 public_bytes! {
+    /// A public key half as long: "PDS", version, seed, b. Its a is read, as from a [`UniformStream`], from SHAKE128 of the seed.
+    SeededPublicKey, 2085
+}
+public_bytes! {
     /// A sealed entry: "PLG", version, c1, c2, body, tag.
     SealedEntry, 4133
 }
@@ -128,6 +132,10 @@ public_bytes! {
 public_bytes! {
     /// Random bytes for a key: 1,344 words from which a is taken. The public key shows them.
     UniformStream, 2688
+}
+public_bytes! {
+    /// Random bytes for a key, which stand for its a. The public key shows them.
+    Seed, 32
 }
 secret_bytes! {
     /// A secret key: "SDK", version, a, b, s. Document 01 calls it a desk key.
@@ -148,6 +156,32 @@ secret_bytes! {
 secret_bytes! {
     /// Random bytes for a triple: of a sealing, or the dummy of an opening.
     TripleNoise, 1536
+}
+
+/// A public key as one of its two records, [`PublicKey`] or [`SeededPublicKey`]. [`seal`](crate::seal) and
+/// [`encapsulate`](crate::encapsulate) take either, also as a `dyn PublicRecord`, and give the same under both where a and b are the same.
+pub trait PublicRecord: sealed::Sealed {
+    /// Its bytes; their count tells the record.
+    fn as_slice(&self) -> &[u8];
+}
+
+impl PublicRecord for PublicKey {
+    fn as_slice(&self) -> &[u8] {
+        self.as_bytes()
+    }
+}
+
+impl PublicRecord for SeededPublicKey {
+    fn as_slice(&self) -> &[u8] {
+        self.as_bytes()
+    }
+}
+
+/// Keeps the trait to these two types: a length of neither record cannot be lent.
+mod sealed {
+    pub trait Sealed {}
+    impl Sealed for super::PublicKey {}
+    impl Sealed for super::SeededPublicKey {}
 }
 
 #[cfg(test)]

@@ -50,7 +50,7 @@ fn beside_the_reference() {
     let mut random = Random::new(501);
     let mut count = Count::new("desk program, beside the reference");
     let sound = Sound::new(&mut random);
-    let all = damage::of(sound.open.call, &sound.open, &mut random);
+    let all = damage::of(&sound.open, &mut random);
     for turn in 0..600 {
         let case = if turn % 10 == 0 { sound.open.clone() } else { random.pick(&all).apply(&sound.open) };
         let mut input = case.inputs.concat();

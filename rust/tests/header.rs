@@ -1,6 +1,8 @@
 //! include/polka.h and this package say the same: lengths, numbers, words, version. Linking looks only at the names of calls: that their
 //! arguments fit shows in the vectors, which both C and Rust run.
-use polka::{Encapsulation, Entry, Error, KeyNoise, PublicKey, SealedEntry, SecretKey, Triple, TripleNoise, UniformStream};
+use polka::{
+    Encapsulation, Entry, Error, KeyNoise, PublicKey, SealedEntry, SecretKey, Seed, SeededPublicKey, Triple, TripleNoise, UniformStream,
+};
 
 const HEADER: &str = include_str!("../../include/polka.h");
 
@@ -19,12 +21,14 @@ fn value(name: &str) -> &'static str {
 fn lengths() {
     let all = [
         ("PUBLIC_KEY", PublicKey::LENGTH),
+        ("SEEDED_PUBLIC_KEY", SeededPublicKey::LENGTH),
         ("SECRET_KEY", SecretKey::LENGTH),
         ("SEALED_ENTRY", SealedEntry::LENGTH),
         ("ENCAPSULATION", Encapsulation::LENGTH),
         ("TRIPLE", Triple::LENGTH),
         ("ENTRY", Entry::LENGTH),
         ("UNIFORM_STREAM", UniformStream::LENGTH),
+        ("SEED", Seed::LENGTH),
         ("KEY_NOISE", KeyNoise::LENGTH),
         ("TRIPLE_NOISE", TripleNoise::LENGTH),
     ];

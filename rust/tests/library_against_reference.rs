@@ -34,7 +34,7 @@ fn damaged_cases() {
     for _ in 0..40 {
         let sound = Sound::new(&mut random);
         for case in sound.all() {
-            let all = damage::of(case.call, case, &mut random);
+            let all = damage::of(case, &mut random);
             for _ in 0..6 {
                 let faults = 1 + random.below(3);
                 let damaged = (0..faults).fold(case.clone(), |case, _| random.pick(&all).apply(&case));
@@ -92,17 +92,27 @@ fn noise_of_all_lengths() {
     count.finish();
 }
 
-#[test]
-fn shake256() {
-    let mut random = Random::new(305);
-    let mut count = Count::new("beside the reference, shake256");
-    let edges = [0, 1, 7, 8, 135, 136, 137, 271, 272, 273, 1000];
+/// Lengths around those of blocks, and random ones.
+fn hash(what: &'static str, call: Call, rate: usize, seed: u64) {
+    let mut random = Random::new(seed);
+    let mut count = Count::new(what);
+    let edges = [0, 1, 7, 8, rate - 1, rate, rate + 1, 2 * rate - 1, 2 * rate, 2 * rate + 1, 1000];
     let mut lengths: Vec<(usize, usize)> = edges.iter().flat_map(|&i| edges.map(|o| (i, o))).collect();
     lengths.extend((0..600).map(|_| (random.below(1200), random.below(1200))));
     lengths.extend([(100_000, 32), (32, 100_000)]);
     for (input, output) in lengths {
         let name = format!("{input} in, {output} out");
-        compare(&mut count, &Case { name, call: Call::Shake256, inputs: vec![random.bytes(input)], outputs: vec![output] });
+        compare(&mut count, &Case { name, call, inputs: vec![random.bytes(input)], outputs: vec![output] });
     }
     count.finish();
+}
+
+#[test]
+fn shake128() {
+    hash("beside the reference, shake128", Call::Shake128, 168, 306);
+}
+
+#[test]
+fn shake256() {
+    hash("beside the reference, shake256", Call::Shake256, 136, 305);
 }

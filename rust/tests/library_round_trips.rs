@@ -67,6 +67,50 @@ fn encapsulate_and_decapsulate() {
     count.finish();
 }
 
+/// A seed and the stream that it stands for make one key, under whose two public records the same is sealed and encapsulated.
+#[test]
+fn seeded_public_keys() {
+    let mut random = Random::new(204);
+    let mut keys = Count::new("round trips, keys from a seed and from its stream");
+    let mut entries = Count::new("round trips, sealed under both records and opened");
+    let mut triples = Count::new("round trips, encapsulated under both records and decapsulated");
+    for key in 0..500 {
+        let (seed, noise_s, noise_e): ([u8; 32], [u8; 512], [u8; 512]) = (random.array(), random.array(), random.array());
+        let mut stream = [0; 2688];
+        polka::shake128(&seed, &mut stream);
+        let made = polka::keygen(&stream.into(), KeyNoise::from(&noise_s), KeyNoise::from(&noise_e));
+        let made_from_seed = polka::keygen_from_seed(&seed.into(), KeyNoise::from(&noise_s), KeyNoise::from(&noise_e));
+        let ((long, secret_key_of_stream), (seeded, secret_key)) = match (made, made_from_seed) {
+            (Ok(made), Ok(made_from_seed)) => (made, made_from_seed),
+            (made, made_from_seed) => {
+                keys.agree(&format!("key {key}"), made.err() == made_from_seed.err());
+                continue;
+            }
+        };
+        // the records are what the secret key's a and b make them
+        let (a, b) = secret_key.as_bytes()[5..4101].split_at(2048);
+        let same = secret_key_of_stream.as_bytes() == secret_key.as_bytes()
+            && *long.as_bytes() == *[&b"PDK\x01\x00"[..], a, b].concat()
+            && *seeded.as_bytes() == *[&b"PDS\x01\x00"[..], &seed[..], b].concat();
+        keys.agree(&format!("key {key}"), same && polka::check_secret_key(&secret_key).is_ok());
+        for i in 0..4 {
+            let (bytes, sealing): ([u8; 16], [u8; 1536]) = (random.array(), random.array());
+            let sealed = polka::seal(&seeded, TripleNoise::from(&sealing), &Entry::from(&bytes)).unwrap();
+            let same = polka::seal(&long, TripleNoise::from(&sealing), &Entry::from(&bytes)).unwrap() == sealed;
+            let opened = polka::open(&secret_key, &sealed, noise(&mut random));
+            entries.agree(&format!("key {key}, entry {i}"), same && opened.is_ok_and(|opened| *opened.as_bytes() == bytes));
+            let sent = triple(&mut random);
+            let encapsulation = polka::encapsulate(&seeded, &sent).unwrap();
+            let same = polka::encapsulate(&long, &sent).unwrap() == encapsulation;
+            let received = polka::decapsulate(&secret_key, &encapsulation, triple(&mut random));
+            triples.agree(&format!("key {key}, triple {i}"), same && received.is_ok_and(|received| received.as_bytes() == sent.as_bytes()));
+        }
+    }
+    keys.finish();
+    entries.finish();
+    triples.finish();
+}
+
 /// The dummy has no part in the answer, whether it is the entry, the triple or a refusal.
 #[test]
 fn other_dummies_give_the_same_answer() {

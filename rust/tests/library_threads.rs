@@ -5,18 +5,19 @@ use std::sync::Barrier;
 use std::thread;
 
 use common::random::Random;
-use polka::{Entry, Error, KeyNoise, SealedEntry, TripleNoise, UniformStream};
+use polka::{Entry, Error, KeyNoise, PublicKey, SealedEntry, Seed, TripleNoise};
 
 #[test]
 fn two_threads_open_at_once() {
     const ENTRIES: usize = 500;
     let mut random = Random::new(401);
-    let (public_key, secret_key) = loop {
-        let stream = UniformStream::from(random.array());
-        if let Ok(keys) = polka::keygen(&stream, KeyNoise::from(&random.array()), KeyNoise::from(&random.array())) {
+    let (seeded_key, secret_key) = loop {
+        let seed = Seed::from(random.array());
+        if let Ok(keys) = polka::keygen_from_seed(&seed, KeyNoise::from(&random.array()), KeyNoise::from(&random.array())) {
             break keys;
         }
     };
+    let public_key = PublicKey::try_from(&[&b"PDK\x01\x00"[..], &secret_key.as_bytes()[5..4101]].concat()[..]).unwrap();
     let entries: Vec<([u8; 16], SealedEntry)> = (0..ENTRIES)
         .map(|i| {
             let bytes: [u8; 16] = random.array();
@@ -31,7 +32,7 @@ fn two_threads_open_at_once() {
         let handles: Vec<_> = [402, 403]
             .into_iter()
             .map(|seed| {
-                let (start, entries, secret_key, public_key) = (&start, &entries, &secret_key, &public_key);
+                let (start, entries, secret_key, public_key, seeded_key) = (&start, &entries, &secret_key, &public_key, &seeded_key);
                 scope.spawn(move || {
                     let mut random = Random::new(seed);
                     start.wait();
@@ -42,9 +43,11 @@ fn two_threads_open_at_once() {
                             Ok(entry) => i % 10 != 9 && entry.as_bytes() == bytes,
                             Err(error) => i % 10 == 9 && error == Error::TagMismatch,
                         };
-                        // sealing in between, so that the threads do not stay in step
-                        let sealed = polka::seal(public_key, TripleNoise::from(&random.array()), &Entry::from(bytes));
-                        wrong += usize::from(!right || sealed.is_err());
+                        // sealing in between under both records, so that the threads do not stay in step
+                        let noise: [u8; 1536] = random.array();
+                        let sealed = polka::seal(public_key, TripleNoise::from(&noise), &Entry::from(bytes));
+                        let same = sealed == polka::seal(seeded_key, TripleNoise::from(&noise), &Entry::from(bytes));
+                        wrong += usize::from(!right || !same || sealed.is_err());
                     }
                     wrong
                 })

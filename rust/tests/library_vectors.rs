@@ -12,6 +12,11 @@ fn keygen() {
 }
 
 #[test]
+fn keygen_from_seed() {
+    vectors::compare_keygen_from_seed(&LIBRARY);
+}
+
+#[test]
 fn check_secret_key() {
     vectors::compare_check_secret_key(&LIBRARY);
 }
@@ -39,6 +44,11 @@ fn open() {
 #[test]
 fn open_sealed_before() {
     vectors::compare_open_sealed_before(&LIBRARY);
+}
+
+#[test]
+fn shake128() {
+    vectors::compare_shake128(&LIBRARY);
 }
 
 #[test]

@@ -11,6 +11,11 @@ fn keygen() {
 }
 
 #[test]
+fn keygen_from_seed() {
+    vectors::compare_keygen_from_seed(&REFERENCE);
+}
+
+#[test]
 fn check_secret_key() {
     vectors::compare_check_secret_key(&REFERENCE);
 }
@@ -38,6 +43,11 @@ fn open() {
 #[test]
 fn open_sealed_before() {
     vectors::compare_open_sealed_before(&REFERENCE);
+}
+
+#[test]
+fn shake128() {
+    vectors::compare_shake128(&REFERENCE);
 }
 
 #[test]

@@ -74,6 +74,10 @@ static uint32_t call_keygen(struct buffer *in, struct buffer *out) {
     return polka_keygen(LENT(in[0]), LENT(in[1]), LENT(in[2]), LENT(out[0]), LENT(out[1]));
 }
 
+static uint32_t call_keygen_from_seed(struct buffer *in, struct buffer *out) {
+    return polka_keygen_from_seed(LENT(in[0]), LENT(in[1]), LENT(in[2]), LENT(out[0]), LENT(out[1]));
+}
+
 static uint32_t call_check_secret_key(struct buffer *in, struct buffer *out) {
     (void)out;
     return polka_check_secret_key(LENT(in[0]));
@@ -95,6 +99,11 @@ static uint32_t call_open(struct buffer *in, struct buffer *out) {
     return polka_open(LENT(in[0]), LENT(in[1]), LENT(in[2]), LENT(out[0]));
 }
 
+static uint32_t call_shake128(struct buffer *in, struct buffer *out) {
+    polka_shake128(LENT(in[0]), LENT(out[0]));
+    return 0;
+}
+
 static uint32_t call_shake256(struct buffer *in, struct buffer *out) {
     polka_shake256(LENT(in[0]), LENT(out[0]));
     return 0;
@@ -111,11 +120,13 @@ struct call {
 
 static const struct call calls[] = {
     {"keygen", 3, 2, POLKA_KEYGEN_STACK, call_keygen},
+    {"keygen_from_seed", 3, 2, POLKA_KEYGEN_FROM_SEED_STACK, call_keygen_from_seed},
     {"check_secret_key", 1, 0, POLKA_CHECK_SECRET_KEY_STACK, call_check_secret_key},
     {"encapsulate", 2, 1, POLKA_ENCAPSULATE_STACK, call_encapsulate},
     {"decapsulate", 3, 1, POLKA_DECAPSULATE_STACK, call_decapsulate},
     {"seal", 3, 1, POLKA_SEAL_STACK, call_seal},
     {"open", 3, 1, POLKA_OPEN_STACK, call_open},
+    {"shake128", 1, 1, POLKA_SHAKE128_STACK, call_shake128},
     {"shake256", 1, 1, POLKA_SHAKE256_STACK, call_shake256},
 };
 

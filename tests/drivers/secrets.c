@@ -1,6 +1,8 @@
 /* Makes one call with its secrets marked undefined: memcheck then reports each branch and each address that hangs on them.
- * The answer and the outputs are marked defined again when the call is over.
- * usage: secrets keygen|check_secret_key|encapsulate|decapsulate|seal|open|shake256   under valgrind */
+ * The answer and the outputs are marked defined again when the call is over. encapsulate_seeded and seal_seeded are encapsulate and seal
+ * under a seeded public key.
+ * usage: secrets keygen|keygen_from_seed|check_secret_key|encapsulate|encapsulate_seeded|decapsulate|seal|seal_seeded|open|shake128|
+ *                shake256   under valgrind */
 #include <stdio.h>
 #include <stdlib.h>
 #include <string.h>
@@ -8,8 +10,10 @@
 
 #include "polka.h"
 
-static uint8_t stream[POLKA_UNIFORM_STREAM_LENGTH], noise_s[POLKA_KEY_NOISE_LENGTH], noise_e[POLKA_KEY_NOISE_LENGTH];
-static uint8_t public_key[POLKA_PUBLIC_KEY_LENGTH], secret_key[POLKA_SECRET_KEY_LENGTH];
+static uint8_t seed[POLKA_SEED_LENGTH], stream[POLKA_UNIFORM_STREAM_LENGTH];
+static uint8_t noise_s[POLKA_KEY_NOISE_LENGTH], noise_e[POLKA_KEY_NOISE_LENGTH];
+static uint8_t public_key[POLKA_PUBLIC_KEY_LENGTH], seeded_public_key[POLKA_SEEDED_PUBLIC_KEY_LENGTH];
+static uint8_t secret_key[POLKA_SECRET_KEY_LENGTH];
 static uint8_t noise[POLKA_TRIPLE_NOISE_LENGTH], dummy_noise[POLKA_TRIPLE_NOISE_LENGTH];
 static uint8_t triple[POLKA_TRIPLE_LENGTH], dummy[POLKA_TRIPLE_LENGTH], triple_out[POLKA_TRIPLE_LENGTH];
 static uint8_t entry[POLKA_ENTRY_LENGTH], entry_out[POLKA_ENTRY_LENGTH];
@@ -43,8 +47,11 @@ static void must(int holds, const char *what) {
     }
 }
 
-static uint32_t seal(void) {
-    return polka_seal(public_key, sizeof public_key, noise, sizeof noise, entry, sizeof entry, sealed, sizeof sealed);
+#define LENT(bytes) bytes, sizeof bytes
+
+/* Under either record of the public key. */
+static uint32_t seal(const uint8_t *key, size_t key_length) {
+    return polka_seal(key, key_length, noise, sizeof noise, entry, sizeof entry, sealed, sizeof sealed);
 }
 
 static uint32_t open_sealed(void) {
@@ -56,12 +63,17 @@ static uint32_t keygen(void) {
                         sizeof secret_key);
 }
 
+static uint32_t keygen_from_seed(void) {
+    return polka_keygen_from_seed(seed, sizeof seed, noise_s, sizeof noise_s, noise_e, sizeof noise_e, seeded_public_key,
+                                  sizeof seeded_public_key, secret_key, sizeof secret_key);
+}
+
 static uint32_t check_secret_key(void) {
     return polka_check_secret_key(secret_key, sizeof secret_key);
 }
 
-static uint32_t encapsulate(void) {
-    return polka_encapsulate(public_key, sizeof public_key, triple, sizeof triple, encapsulation, sizeof encapsulation);
+static uint32_t encapsulate(const uint8_t *key, size_t key_length) {
+    return polka_encapsulate(key, key_length, triple, sizeof triple, encapsulation, sizeof encapsulation);
 }
 
 static uint32_t decapsulate(void) {
@@ -69,10 +81,18 @@ static uint32_t decapsulate(void) {
                              sizeof triple_out);
 }
 
-/* Of any secret bytes; three blocks out. */
-static uint32_t shake256(void) {
-    polka_shake256(noise, sizeof noise, digest, sizeof digest);
+/* Of any secret bytes; more than one block in and out. */
+static uint32_t hash(void (*shake)(const uint8_t *, size_t, uint8_t *, size_t)) {
+    shake(noise, sizeof noise, digest, sizeof digest);
     return POLKA_DONE;
+}
+
+/* Whether what is made under this record of the public key comes back. */
+static int round_trips(const uint8_t *key, size_t key_length) {
+    memset(entry_out, 0, sizeof entry_out);
+    memset(triple_out, 0, sizeof triple_out);
+    return seal(key, key_length) == POLKA_DONE && open_sealed() == POLKA_DONE && memcmp(entry, entry_out, sizeof entry) == 0 &&
+           encapsulate(key, key_length) == POLKA_DONE && decapsulate() == POLKA_DONE && memcmp(triple, triple_out, sizeof triple) == 0;
 }
 
 /* One function a secret: memcheck names it as the place that a value comes from. None is inlined, or its name is lost. */
@@ -110,6 +130,7 @@ static void all_defined(void) {
     VALGRIND_MAKE_MEM_DEFINED(noise_s, sizeof noise_s);
     VALGRIND_MAKE_MEM_DEFINED(noise_e, sizeof noise_e);
     VALGRIND_MAKE_MEM_DEFINED(public_key, sizeof public_key);
+    VALGRIND_MAKE_MEM_DEFINED(seeded_public_key, sizeof seeded_public_key);
     VALGRIND_MAKE_MEM_DEFINED(secret_key, sizeof secret_key);
     VALGRIND_MAKE_MEM_DEFINED(noise, sizeof noise);
     VALGRIND_MAKE_MEM_DEFINED(dummy_noise, sizeof dummy_noise);
@@ -127,27 +148,33 @@ int main(int count, char **words) {
     must(count == 2, "usage: secrets CALL");
     uint32_t answer;
     do {
-        fill(stream, sizeof stream);
+        fill(seed, sizeof seed);
         fill(noise_s, sizeof noise_s);
         fill(noise_e, sizeof noise_e);
-        answer = keygen();
+        answer = keygen_from_seed();
     } while (answer == POLKA_NOT_INVERTIBLE);
-    must(answer == POLKA_DONE, "keygen");
+    must(answer == POLKA_DONE, "keygen_from_seed");
+    /* the same key once more, for the other record */
+    polka_shake128(seed, sizeof seed, stream, sizeof stream);
+    must(keygen() == POLKA_DONE, "keygen");
     fill(noise, sizeof noise);
     fill(dummy_noise, sizeof dummy_noise);
     fill_codes(triple, sizeof triple);
     fill_codes(dummy, sizeof dummy);
     fill(entry, sizeof entry);
-    must(seal() == POLKA_DONE && open_sealed() == POLKA_DONE && memcmp(entry, entry_out, sizeof entry) == 0, "seal and open");
-    must(encapsulate() == POLKA_DONE && decapsulate() == POLKA_DONE && memcmp(triple, triple_out, sizeof triple) == 0,
-         "encapsulate and decapsulate");
+    must(round_trips(LENT(public_key)), "round trips");
+    must(round_trips(LENT(seeded_public_key)), "round trips under a seeded public key");
     memset(entry_out, 0, sizeof entry_out);
     memset(triple_out, 0, sizeof triple_out);
 
     if (strcmp(words[1], "seal") == 0) {
         secret_noise();
         secret_entry();
-        answer = seal();
+        answer = seal(LENT(public_key));
+    } else if (strcmp(words[1], "seal_seeded") == 0) {
+        secret_noise();
+        secret_entry();
+        answer = seal(LENT(seeded_public_key));
     } else if (strcmp(words[1], "open") == 0) {
         secret_key_s();
         secret_dummy();
@@ -155,15 +182,24 @@ int main(int count, char **words) {
     } else if (strcmp(words[1], "keygen") == 0) {
         secret_key_noise();
         answer = keygen();
+    } else if (strcmp(words[1], "keygen_from_seed") == 0) {
+        secret_key_noise();
+        answer = keygen_from_seed();
     } else if (strcmp(words[1], "check_secret_key") == 0) {
         secret_key_s();
         answer = check_secret_key();
+    } else if (strcmp(words[1], "shake128") == 0) {
+        secret_noise();
+        answer = hash(polka_shake128);
     } else if (strcmp(words[1], "shake256") == 0) {
         secret_noise();
-        answer = shake256();
+        answer = hash(polka_shake256);
     } else if (strcmp(words[1], "encapsulate") == 0) {
         secret_triple();
-        answer = encapsulate();
+        answer = encapsulate(LENT(public_key));
+    } else if (strcmp(words[1], "encapsulate_seeded") == 0) {
+        secret_triple();
+        answer = encapsulate(LENT(seeded_public_key));
     } else if (strcmp(words[1], "decapsulate") == 0) {
         secret_key_s();
         secret_dummy();

@@ -4,11 +4,13 @@ use super::reference;
 #[derive(Clone, Copy, PartialEq, Eq, Debug)]
 pub enum Call {
     Keygen,
+    KeygenFromSeed,
     CheckSecretKey,
     Encapsulate,
     Decapsulate,
     Seal,
     Open,
+    Shake128,
     Shake256,
 }
 
@@ -20,28 +22,33 @@ pub struct Case {
     pub outputs: Vec<usize>,
 }
 
+type Hash = fn(&[u8], &mut [u8]);
 type TwoIn = fn(&[u8], &[u8], &mut [u8]) -> u32;
 type ThreeIn = fn(&[u8], &[u8], &[u8], &mut [u8]) -> u32;
 type ThreeInTwoOut = fn(&[u8], &[u8], &[u8], &mut [u8], &mut [u8]) -> u32;
 
-/// The seven calls on bytes, by whoever supplies them.
+/// The calls on bytes, by whoever supplies them.
 pub struct Calls {
     pub keygen: ThreeInTwoOut,
+    pub keygen_from_seed: ThreeInTwoOut,
     pub check_secret_key: fn(&[u8]) -> u32,
     pub encapsulate: TwoIn,
     pub decapsulate: ThreeIn,
     pub seal: ThreeIn,
     pub open: ThreeIn,
-    pub shake256: fn(&[u8], &mut [u8]),
+    pub shake128: Hash,
+    pub shake256: Hash,
 }
 
 pub const REFERENCE: Calls = Calls {
     keygen: reference::keygen,
+    keygen_from_seed: reference::keygen_from_seed,
     check_secret_key: reference::check_secret_key,
     encapsulate: reference::encapsulate,
     decapsulate: reference::decapsulate,
     seal: reference::seal,
     open: reference::open,
+    shake128: reference::shake128,
     shake256: reference::shake256,
 };
 
@@ -68,20 +75,24 @@ pub fn run(calls: &Calls, case: &Case) -> Outcome {
         let input = |i: usize| &case.inputs[i][..];
         let mut lent: Vec<&mut [u8]> =
             after.iter_mut().zip(&case.outputs).map(|(buffer, length)| &mut buffer[MARGIN..MARGIN + length]).collect();
+        let keys = |call: ThreeInTwoOut, lent: &mut [&mut [u8]]| {
+            let (public_key, secret_key) = lent.split_at_mut(1);
+            call(input(0), input(1), input(2), public_key[0], secret_key[0])
+        };
+        let hash = |call: Hash, lent: &mut [&mut [u8]]| {
+            call(input(0), lent[0]);
+            0
+        };
         match case.call {
-            Call::Keygen => {
-                let (public_key, secret_key) = lent.split_at_mut(1);
-                (calls.keygen)(input(0), input(1), input(2), public_key[0], secret_key[0])
-            }
+            Call::Keygen => keys(calls.keygen, &mut lent),
+            Call::KeygenFromSeed => keys(calls.keygen_from_seed, &mut lent),
             Call::CheckSecretKey => (calls.check_secret_key)(input(0)),
             Call::Encapsulate => (calls.encapsulate)(input(0), input(1), lent[0]),
             Call::Decapsulate => (calls.decapsulate)(input(0), input(1), input(2), lent[0]),
             Call::Seal => (calls.seal)(input(0), input(1), input(2), lent[0]),
             Call::Open => (calls.open)(input(0), input(1), input(2), lent[0]),
-            Call::Shake256 => {
-                (calls.shake256)(input(0), lent[0]);
-                0
-            }
+            Call::Shake128 => hash(calls.shake128, &mut lent),
+            Call::Shake256 => hash(calls.shake256, &mut lent),
         }
     };
     for ((before, after), length) in before.iter().zip(&after).zip(&case.outputs) {

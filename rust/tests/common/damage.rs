@@ -1,15 +1,18 @@
-//! Sound cases of every call, and each kind of damage to them, with the number that document 01 gives where it is plain.
+//! Sound cases of every call, and each kind of damage to them, with the number that documents 01 and 02 give where it is plain.
 use super::cases::{run, Call, Case, REFERENCE};
 use super::random::Random;
 use super::reference::{self, N, Q};
 
-/// A sound case of each call, all under one key.
+/// A sound case of each call, all under one key. The calls that are lent a public key have one for each record.
 pub struct Sound {
     pub keygen: Case,
+    pub keygen_from_seed: Case,
     pub check_secret_key: Case,
     pub encapsulate: Case,
+    pub encapsulate_seeded: Case,
     pub decapsulate: Case,
     pub seal: Case,
+    pub seal_seeded: Case,
     pub open: Case,
 }
 
@@ -26,26 +29,48 @@ fn written(case: &Case) -> Option<Vec<Vec<u8>>> {
 impl Sound {
     pub fn new(random: &mut Random) -> Sound {
         // about one random key in sixty is refused
-        let (keygen, keys) = loop {
-            let inputs = vec![random.bytes(2688), random.bytes(512), random.bytes(512)];
-            let keygen = case("keygen", Call::Keygen, inputs, &[4101, 4357]);
-            if let Some(keys) = written(&keygen) {
-                break (keygen, keys);
+        let (keygen_from_seed, keys) = loop {
+            let inputs = vec![random.bytes(32), random.bytes(512), random.bytes(512)];
+            let keygen_from_seed = case("keygen_from_seed", Call::KeygenFromSeed, inputs, &[2085, 4357]);
+            if let Some(keys) = written(&keygen_from_seed) {
+                break (keygen_from_seed, keys);
             }
         };
-        let [public_key, secret_key]: [Vec<u8>; 2] = keys.try_into().unwrap();
+        let [seeded_public_key, secret_key]: [Vec<u8>; 2] = keys.try_into().unwrap();
+        // the stream that the seed stands for makes the same key
+        let mut inputs = keygen_from_seed.inputs.clone();
+        inputs[0] = vec![0; 2688];
+        reference::shake128(&keygen_from_seed.inputs[0], &mut inputs[0]);
+        let keygen = case("keygen", Call::Keygen, inputs, &[4101, 4357]);
+        let public_key = written(&keygen).unwrap().remove(0);
+        let seeded = |long: &Case| {
+            let inputs = [&[seeded_public_key.clone()][..], &long.inputs[1..]].concat();
+            case(&format!("{}, seeded key", long.name), long.call, inputs, &long.outputs)
+        };
         let check_secret_key = case("check_secret_key", Call::CheckSecretKey, vec![secret_key.clone()], &[]);
         let encapsulate = case("encapsulate", Call::Encapsulate, vec![public_key.clone(), random.codes(768)], &[4096]);
+        let encapsulate_seeded = seeded(&encapsulate);
         let encapsulation = written(&encapsulate).unwrap().remove(0);
         let decapsulate = case("decapsulate", Call::Decapsulate, vec![secret_key.clone(), encapsulation, random.codes(768)], &[768]);
         let seal = case("seal", Call::Seal, vec![public_key, random.bytes(1536), random.bytes(16)], &[4133]);
+        let seal_seeded = seeded(&seal);
         let sealed = written(&seal).unwrap().remove(0);
         let open = case("open", Call::Open, vec![secret_key, sealed, random.bytes(1536)], &[16]);
-        Sound { keygen, check_secret_key, encapsulate, decapsulate, seal, open }
+        Sound { keygen, keygen_from_seed, check_secret_key, encapsulate, encapsulate_seeded, decapsulate, seal, seal_seeded, open }
     }
 
-    pub fn all(&self) -> [&Case; 6] {
-        [&self.keygen, &self.check_secret_key, &self.encapsulate, &self.decapsulate, &self.seal, &self.open]
+    pub fn all(&self) -> [&Case; 9] {
+        [
+            &self.keygen,
+            &self.keygen_from_seed,
+            &self.check_secret_key,
+            &self.encapsulate,
+            &self.encapsulate_seeded,
+            &self.decapsulate,
+            &self.seal,
+            &self.seal_seeded,
+            &self.open,
+        ]
     }
 }
 
@@ -114,6 +139,24 @@ fn root(exponent: usize) -> u64 {
     (0..exponent).fold(1, |power, _| power * 3 % u64::from(Q))
 }
 
+/// Noise whose polynomial has this value at the root 3^exponent: the value in digits −1, 0, 1 to base 3, each at the coefficient that
+/// the root's power makes a power of 3.
+fn noise_of_value(value: u32, exponent: usize) -> Vec<u8> {
+    let mut noise = vec![0; N / 2];
+    let mut rest = reference::centred(value);
+    for power in 0..11 {
+        let digit = (rest + 1).rem_euclid(3) - 1;
+        rest = (rest - digit) / 3;
+        // the root's 1,024th power is −1
+        let place = (0..2 * N).find(|place| exponent * place % (2 * N) == power).unwrap();
+        let digit = if place < N { digit } else { -digit };
+        // four bits 1 are 1, four bits 2 are −1
+        let four = digit.rem_euclid(3) as u8;
+        noise[place % N / 2] |= four << (4 * (place % 2));
+    }
+    noise
+}
+
 // ---- kinds of damage
 
 /// Every buffer too short, too long and empty.
@@ -134,7 +177,8 @@ pub fn lengths(case: &Case) -> Vec<Damage> {
 }
 
 /// Each byte of the mark, other records' marks, and versions.
-pub fn headers(input: usize) -> Vec<Damage> {
+pub fn headers(case: &Case, input: usize) -> Vec<Damage> {
+    let own = &case.inputs[input][..3];
     let mut all = vec![];
     for byte in 0..3 {
         for flip in [0x01, 0x20, 0x80, 0xff] {
@@ -145,8 +189,9 @@ pub fn headers(input: usize) -> Vec<Damage> {
             }));
         }
     }
-    for mark in [b"PDK", b"SDK", b"PLG", b"pdk", b"sdk", b"plg"] {
-        all.push(Damage::new(format!("input {input}, mark {}", String::from_utf8_lossy(mark)), None, move |case| {
+    let marks = [b"PDK", b"PDS", b"SDK", b"PLG", b"pdk", b"pds", b"sdk", b"plg"];
+    for mark in marks.into_iter().filter(|mark| mark[..] != *own) {
+        all.push(Damage::new(format!("input {input}, mark {}", String::from_utf8_lossy(mark)), Some(2), move |case| {
             put(&mut case.inputs[input], 0, mark);
         }));
     }
@@ -159,10 +204,42 @@ pub fn headers(input: usize) -> Vec<Damage> {
     all
 }
 
-/// Words at q and above, at the first and last places of both elements; and the largest word that is allowed.
-pub fn words(input: usize, start: usize) -> Vec<Damage> {
+/// The public key, input 0, at lengths beside those of both records, and as the other record, with its own mark and with the other's.
+pub fn other_records(case: &Case) -> Vec<Damage> {
     let mut all = vec![];
-    for place in [0, 1, 511, 512, 1022, 1023, 1024, 1025, 1536, 2046, 2047] {
+    for other in [2084, 2086, 4100, 4102] {
+        all.push(Damage::new(format!("input 0 of length {other}"), Some(1), move |case| case.inputs[0].resize(other, 0)));
+    }
+    let (other, mark) = if is_seeded(case) { (4101, b"PDK") } else { (2085, b"PDS") };
+    all.push(Damage::new(format!("input 0 of length {other}"), Some(2), move |case| case.inputs[0].resize(other, 0)));
+    all.push(Damage::new(format!("input 0 of length {other} and mark {}", String::from_utf8_lossy(mark)), None, move |case| {
+        case.inputs[0].resize(other, 0);
+        put(&mut case.inputs[0], 0, mark);
+    }));
+    all
+}
+
+/// Other seeds, which stand in input 0.
+pub fn seeds(start: usize, number: Option<u32>) -> Vec<Damage> {
+    let mut all = vec![];
+    for fill in [0x00, 0x01, 0xff] {
+        all.push(Damage::new(format!("seed all {fill:#04x}"), number, move |case| put(&mut case.inputs[0], start, &[fill; 32])));
+    }
+    for bit in [0, 7, 8, 128, 255] {
+        all.push(Damage::new(format!("seed bit {bit}"), number, move |case| {
+            if let Some(byte) = case.inputs[0].get_mut(start + bit / 8) {
+                *byte ^= 1 << (bit % 8);
+            }
+        }));
+    }
+    all
+}
+
+/// Words at q and above, at first, last and middle places of each element; and the largest word that is allowed.
+pub fn words(input: usize, start: usize, count: usize) -> Vec<Damage> {
+    let mut all = vec![];
+    let places = [0, 1, 511, 512, 1022, 1023, 1024, 1025, 1536, 2046, 2047];
+    for place in places.into_iter().filter(|&place| place < count) {
         for (value, number) in [(59_392, None), (59_393, Some(4)), (59_394, Some(4)), (65_535, Some(4))] {
             all.push(Damage::new(format!("input {input}, word {place} is {value}"), number, move |case| {
                 put_word(&mut case.inputs[input], start + 2 * place, value);
@@ -186,13 +263,13 @@ pub fn codes(input: usize, start: usize, count: usize) -> Vec<Damage> {
         .collect()
 }
 
-/// b is zero, or zero at one root of X^1024 + 1. The key is input 0.
-pub fn no_units() -> Vec<Damage> {
-    let mut all = vec![Damage::new("b is 0".into(), Some(6), |case| put(&mut case.inputs[0], 2053, &[0; 2048]))];
+/// b is zero, or zero at one root of X^1024 + 1. The key is input 0, and b starts there.
+pub fn no_units(start: usize) -> Vec<Damage> {
+    let mut all = vec![Damage::new("b is 0".into(), Some(6), move |case| put(&mut case.inputs[0], start, &[0; 2048]))];
     for exponent in [1, 3, 5, 1023, 1025, 2047] {
         all.push(Damage::new(format!("b is 0 at the root 3^{exponent}"), Some(6), move |case| {
-            if let Some(b) = element(&case.inputs[0], 2053) {
-                move_word(&mut case.inputs[0], 2053, Q - value_at(&b, root(exponent)));
+            if let Some(b) = element(&case.inputs[0], start) {
+                move_word(&mut case.inputs[0], start, Q - value_at(&b, root(exponent)));
             }
         }));
     }
@@ -267,6 +344,28 @@ pub fn dummies(input: usize, coded: bool) -> Vec<Damage> {
         .collect()
 }
 
+fn no_noise() -> Damage {
+    Damage::new("s and e are 0".into(), Some(6), |case| {
+        case.inputs[1].fill(0);
+        case.inputs[2].fill(0);
+    })
+}
+
+/// Keys from a seed whose b is no unit.
+pub fn seeded_no_units() -> Vec<Damage> {
+    let mut all = vec![no_noise()];
+    // e takes the value of a × s away
+    for exponent in [1, 3, 1023, 2047] {
+        all.push(Damage::new(format!("b is 0 at the root 3^{exponent}"), Some(6), move |case| {
+            if let Ok(a) = reference::seeded(&case.inputs[0]) {
+                let a_s = reference::product(&a, &reference::from_noise(&case.inputs[1]));
+                case.inputs[2] = noise_of_value(Q - value_at(&a_s, root(exponent)), exponent);
+            }
+        }));
+    }
+    all
+}
+
 /// Streams with just enough words below q, one too few, and keys whose b is no unit.
 pub fn streams(random: &mut Random) -> Vec<Damage> {
     let mut all = vec![];
@@ -290,10 +389,7 @@ pub fn streams(random: &mut Random) -> Vec<Damage> {
             }));
         }
     }
-    all.push(Damage::new("s and e are 0".into(), Some(6), |case| {
-        case.inputs[1].fill(0);
-        case.inputs[2].fill(0);
-    }));
+    all.push(no_noise());
     all.push(Damage::new("a and e are 0".into(), Some(6), |case| {
         case.inputs[0].fill(0);
         case.inputs[2].fill(0);
@@ -315,40 +411,57 @@ pub fn streams(random: &mut Random) -> Vec<Damage> {
     all
 }
 
-/// All kinds that fit a call.
-pub fn of(call: Call, case: &Case, random: &mut Random) -> Vec<Damage> {
+/// Whether the public key, input 0, is the seeded record.
+fn is_seeded(case: &Case) -> bool {
+    case.inputs[0].len() == 2085
+}
+
+/// All kinds that fit a sound case.
+pub fn of(case: &Case, random: &mut Random) -> Vec<Damage> {
     let mut all = lengths(case);
-    match call {
+    match case.call {
         Call::Keygen => all.extend(streams(random)),
+        Call::KeygenFromSeed => {
+            all.extend(seeds(0, None));
+            all.extend(seeded_no_units());
+        }
         Call::CheckSecretKey | Call::Decapsulate | Call::Open => {
-            all.extend(headers(0));
-            all.extend(words(0, 5));
+            all.extend(headers(case, 0));
+            all.extend(words(0, 5, 2 * N));
             all.extend(codes(0, 4101, 1024));
-            all.extend(no_units());
+            all.extend(no_units(2053));
             all.extend(parted_keys());
         }
         Call::Encapsulate | Call::Seal => {
-            all.extend(headers(0));
-            all.extend(words(0, 5));
-            all.extend(no_units());
+            all.extend(headers(case, 0));
+            all.extend(other_records(case));
+            if is_seeded(case) {
+                // b is a unit whatever a is
+                all.extend(seeds(5, Some(0)));
+                all.extend(words(0, 37, N));
+                all.extend(no_units(37));
+            } else {
+                all.extend(words(0, 5, 2 * N));
+                all.extend(no_units(2053));
+            }
         }
-        Call::Shake256 => {}
+        Call::Shake128 | Call::Shake256 => {}
     }
-    match call {
+    match case.call {
         Call::Encapsulate => {
             all.extend(codes(1, 0, 3072));
             all.extend(dummies(1, true));
         }
         Call::Decapsulate => {
-            all.extend(words(1, 0));
+            all.extend(words(1, 0, 2 * N));
             all.extend(moved_capsules(0));
             all.extend(codes(2, 0, 3072));
             all.extend(dummies(2, true));
         }
         Call::Seal => all.extend(dummies(1, false)),
         Call::Open => {
-            all.extend(headers(1));
-            all.extend(words(1, 5));
+            all.extend(headers(case, 1));
+            all.extend(words(1, 5, 2 * N));
             all.extend(moved_capsules(5));
             all.extend(body_and_tag());
             all.extend(dummies(2, false));

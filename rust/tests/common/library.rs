@@ -10,10 +10,12 @@ extern crate polka as _;
 
 pub const LIBRARY: Calls = Calls {
     keygen: ffi::keygen,
+    keygen_from_seed: ffi::keygen_from_seed,
     check_secret_key: ffi::check_secret_key,
     encapsulate: ffi::encapsulate,
     decapsulate: ffi::decapsulate,
     seal: ffi::seal,
     open: ffi::open,
+    shake128: ffi::shake128,
     shake256: ffi::shake256,
 };

@@ -1,5 +1,5 @@
-//! Document 01 written out a second time, as plainly as it reads: sums over pairs of coefficients, Euclid's algorithm on polynomials,
-//! Keccak lane by lane, the tag's field bit by bit. It knows no transform and shares no code with the library.
+//! Documents 01 and 02 written out a second time, as plainly as they read: sums over pairs of coefficients, Euclid's algorithm on
+//! polynomials, Keccak lane by lane, the tag's field bit by bit. It knows no transform and shares no code with the library.
 
 pub const N: usize = 1024;
 pub const Q: u32 = 59_393;
@@ -142,7 +142,7 @@ fn is_short(f: &[u32]) -> bool {
     within(1, f)
 }
 
-// ---- SHAKE256 (FIPS 202)
+// ---- SHAKE128 and SHAKE256 (FIPS 202)
 
 /// Bit t of the register behind the round constants.
 fn register_bit(t: usize) -> bool {
@@ -194,20 +194,20 @@ fn keccak(state: &mut [u64; 25]) {
     }
 }
 
-pub fn shake256(input: &[u8], out: &mut [u8]) {
-    const RATE: usize = 136;
+/// The sponge takes and gives `rate` bytes a turn.
+fn shake(rate: usize, input: &[u8], out: &mut [u8]) {
     let mut padded = input.to_vec();
     padded.push(0x1f);
-    padded.resize(padded.len().next_multiple_of(RATE), 0);
+    padded.resize(padded.len().next_multiple_of(rate), 0);
     *padded.last_mut().unwrap() |= 0x80;
     let mut state = [0u64; 25];
-    for block in padded.chunks(RATE) {
+    for block in padded.chunks(rate) {
         for (i, &byte) in block.iter().enumerate() {
             state[i / 8] ^= u64::from(byte) << (8 * (i % 8));
         }
         keccak(&mut state);
     }
-    for (turn, block) in out.chunks_mut(RATE).enumerate() {
+    for (turn, block) in out.chunks_mut(rate).enumerate() {
         if turn > 0 {
             keccak(&mut state);
         }
@@ -215,6 +215,14 @@ pub fn shake256(input: &[u8], out: &mut [u8]) {
             *byte = (state[i / 8] >> (8 * (i % 8))) as u8;
         }
     }
+}
+
+pub fn shake128(input: &[u8], out: &mut [u8]) {
+    shake(168, input, out);
+}
+
+pub fn shake256(input: &[u8], out: &mut [u8]) {
+    shake(136, input, out);
 }
 
 fn shake256_of<const LENGTH: usize>(first: u8, rest: &[u8]) -> [u8; LENGTH] {
@@ -301,7 +309,7 @@ pub fn noise_value(four: u8) -> i32 {
     }
 }
 
-fn from_noise(bytes: &[u8]) -> Element {
+pub fn from_noise(bytes: &[u8]) -> Element {
     bytes.iter().flat_map(|byte| [byte & 15, byte >> 4]).map(|four| coefficient(noise_value(four))).collect()
 }
 
@@ -352,11 +360,27 @@ struct SecretKey {
     inverse_of_b: Element,
 }
 
+/// What a public key is measured against: the seeded record where it has that length, else the long one.
+fn public_key_length(public_key: &[u8]) -> usize {
+    if public_key.len() == 2085 {
+        2085
+    } else {
+        4101
+    }
+}
+
+/// The length picks the record.
 fn judge_public_key(record: &[u8]) -> Result<PublicKey, u32> {
-    judge_header(b"PDK", record)?;
-    let mut parts = elements(&record[5..4101])?;
-    let b = parts.pop().unwrap();
-    let a = parts.pop().unwrap();
+    let (a, b) = if record.len() == 2085 {
+        judge_header(b"PDS", record)?;
+        let b = elements(&record[37..])?.pop().unwrap();
+        (seeded(&record[5..37])?, b)
+    } else {
+        judge_header(b"PDK", record)?;
+        let mut parts = elements(&record[5..])?;
+        let b = parts.pop().unwrap();
+        (parts.pop().unwrap(), b)
+    };
     inverse(&b).ok_or(6u32)?;
     Ok(PublicKey { a, b })
 }
@@ -382,6 +406,29 @@ fn uniform(stream: &[u8]) -> Result<Element, u32> {
         return Err(8);
     }
     Ok(taken)
+}
+
+/// The a that a seed stands for.
+pub fn seeded(seed: &[u8]) -> Result<Element, u32> {
+    let mut stream = [0; 2688];
+    shake128(seed, &mut stream);
+    uniform(&stream)
+}
+
+/// b = 5 × (a × s + e), tried once, and s.
+fn new_key(a: &[u32], noise_s: &[u8], noise_e: &[u8]) -> Result<(Element, Element), u32> {
+    let (s, e) = (from_noise(noise_s), from_noise(noise_e));
+    let b = multiple(5, &sum(&product(a, &s), &e));
+    inverse(&b).ok_or(6u32)?;
+    Ok((b, s))
+}
+
+fn secret_key_bytes(a: &[u32], b: &[u32], s: &[u32]) -> Vec<u8> {
+    let mut record = put_header(b"SDK");
+    put_words(a, &mut record);
+    put_words(b, &mut record);
+    put_codes(s, &mut record);
+    record
 }
 
 // ---- capsule and opening
@@ -436,17 +483,28 @@ pub fn keygen(stream: &[u8], noise_s: &[u8], noise_e: &[u8], public_key: &mut [u
     let mut work = || {
         judge_lengths(&lengths)?;
         let a = uniform(stream)?;
-        let (s, e) = (from_noise(noise_s), from_noise(noise_e));
-        let b = multiple(5, &sum(&product(&a, &s), &e));
-        inverse(&b).ok_or(6u32)?;
-        let (mut public, mut secret) = (put_header(b"PDK"), put_header(b"SDK"));
-        for record in [&mut public, &mut secret] {
-            put_words(&a, record);
-            put_words(&b, record);
-        }
-        put_codes(&s, &mut secret);
-        public_key.copy_from_slice(&public);
-        secret_key.copy_from_slice(&secret);
+        let (b, s) = new_key(&a, noise_s, noise_e)?;
+        let mut record = put_header(b"PDK");
+        put_words(&a, &mut record);
+        put_words(&b, &mut record);
+        public_key.copy_from_slice(&record);
+        secret_key.copy_from_slice(&secret_key_bytes(&a, &b, &s));
+        Ok(())
+    };
+    number(work())
+}
+
+pub fn keygen_from_seed(seed: &[u8], noise_s: &[u8], noise_e: &[u8], public_key: &mut [u8], secret_key: &mut [u8]) -> u32 {
+    let lengths = [(seed.len(), 32), (noise_s.len(), 512), (noise_e.len(), 512), (public_key.len(), 2085), (secret_key.len(), 4357)];
+    let mut work = || {
+        judge_lengths(&lengths)?;
+        let a = seeded(seed)?;
+        let (b, s) = new_key(&a, noise_s, noise_e)?;
+        let mut record = put_header(b"PDS");
+        record.extend_from_slice(seed);
+        put_words(&b, &mut record);
+        public_key.copy_from_slice(&record);
+        secret_key.copy_from_slice(&secret_key_bytes(&a, &b, &s));
         Ok(())
     };
     number(work())
@@ -463,7 +521,7 @@ pub fn check_secret_key(secret_key: &[u8]) -> u32 {
 
 pub fn encapsulate(public_key: &[u8], triple: &[u8], encapsulation: &mut [u8]) -> u32 {
     let mut work = || {
-        judge_lengths(&[(public_key.len(), 4101), (triple.len(), 768), (encapsulation.len(), 4096)])?;
+        judge_lengths(&[(public_key.len(), public_key_length(public_key)), (triple.len(), 768), (encapsulation.len(), 4096)])?;
         let key = judge_public_key(public_key)?;
         let triple = three(coded(triple)?);
         let (c1, c2) = capsule(&key.a, &key.b, &triple);
@@ -491,7 +549,7 @@ pub fn decapsulate(secret_key: &[u8], encapsulation: &[u8], dummy: &[u8], triple
 
 pub fn seal(public_key: &[u8], noise: &[u8], entry: &[u8], sealed: &mut [u8]) -> u32 {
     let mut work = || {
-        judge_lengths(&[(public_key.len(), 4101), (noise.len(), 1536), (entry.len(), 16), (sealed.len(), 4133)])?;
+        judge_lengths(&[(public_key.len(), public_key_length(public_key)), (noise.len(), 1536), (entry.len(), 16), (sealed.len(), 4133)])?;
         let key = judge_public_key(public_key)?;
         let triple = triple_from_noise(noise);
         let (c1, c2) = capsule(&key.a, &key.b, &triple);

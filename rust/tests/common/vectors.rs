@@ -80,6 +80,10 @@ pub fn compare_keygen(calls: &Calls) {
     compare(calls, "vectors, keygen", "keygen", Call::Keygen, 3, 2);
 }
 
+pub fn compare_keygen_from_seed(calls: &Calls) {
+    compare(calls, "vectors, keygen_from_seed", "keygen_from_seed", Call::KeygenFromSeed, 3, 2);
+}
+
 pub fn compare_check_secret_key(calls: &Calls) {
     compare(calls, "vectors, check_secret_key", "check_secret_key", Call::CheckSecretKey, 1, 0);
 }
@@ -103,6 +107,10 @@ pub fn compare_open(calls: &Calls) {
 /// Entries that were sealed before the noise was read as it is now: they open still.
 pub fn compare_open_sealed_before(calls: &Calls) {
     compare(calls, "vectors, entries sealed before", "open_sealed_before", Call::Open, 3, 1);
+}
+
+pub fn compare_shake128(calls: &Calls) {
+    compare(calls, "vectors, shake128", "shake128", Call::Shake128, 1, 1);
 }
 
 pub fn compare_shake256(calls: &Calls) {

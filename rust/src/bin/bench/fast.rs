@@ -224,7 +224,7 @@ pub fn remainders(m: &Element) -> Element {
     })
 }
 
-// ---- SHAKE256
+// ---- SHAKE128 and SHAKE256
 
 const ROUND_CONSTANTS: [u64; 24] = [
     0x0000_0000_0000_0001,
@@ -278,26 +278,26 @@ fn keccak(a: &mut [u64; 25]) {
     }
 }
 
-fn absorb(state: &mut [u64; 25], block: &[u8; 136]) {
+fn absorb<const RATE: usize>(state: &mut [u64; 25], block: &[u8; RATE]) {
     for (lane, bytes) in state.iter_mut().zip(block.chunks_exact(8)) {
         *lane ^= u64::from_le_bytes(bytes.try_into().unwrap());
     }
     keccak(state);
 }
 
-pub fn shake256(input: &[u8], out: &mut [u8]) {
+fn shake<const RATE: usize>(input: &[u8], out: &mut [u8]) {
     let mut state = [0u64; 25];
-    let mut blocks = input.chunks_exact(136);
+    let mut blocks = input.chunks_exact(RATE);
     for block in &mut blocks {
-        absorb(&mut state, block.try_into().unwrap());
+        absorb::<RATE>(&mut state, block.try_into().unwrap());
     }
     let rest = blocks.remainder();
-    let mut last = [0u8; 136];
+    let mut last = [0u8; RATE];
     last[..rest.len()].copy_from_slice(rest);
     last[rest.len()] = 0x1f;
-    last[135] |= 0x80;
+    last[RATE - 1] |= 0x80;
     absorb(&mut state, &last);
-    for (turn, block) in out.chunks_mut(136).enumerate() {
+    for (turn, block) in out.chunks_mut(RATE).enumerate() {
         if turn > 0 {
             keccak(&mut state);
         }
@@ -305,6 +305,14 @@ pub fn shake256(input: &[u8], out: &mut [u8]) {
             bytes.copy_from_slice(&lane.to_le_bytes()[..bytes.len()]);
         }
     }
+}
+
+pub fn shake128(input: &[u8], out: &mut [u8]) {
+    shake::<168>(input, out);
+}
+
+pub fn shake256(input: &[u8], out: &mut [u8]) {
+    shake::<136>(input, out);
 }
 
 // ---- the tag
@@ -424,13 +432,13 @@ fn encode_triple(triple: &[Element; 3]) -> [u8; 768] {
     bytes
 }
 
-fn header(record: &[u8], mark: &[u8; 3]) -> u32 {
+fn judge_header(record: &[u8], mark: &[u8; 3]) -> Result<(), u32> {
     if record[..3] != *mark {
-        2
+        Err(2)
     } else if record[3..5] != [1, 0] {
-        3
+        Err(3)
     } else {
-        0
+        Ok(())
     }
 }
 
@@ -446,16 +454,27 @@ struct PublicKey {
     b: Element,
 }
 
-/// Spectra of a and b.
+fn is_public_key_length(length: usize) -> bool {
+    length == 4101 || length == 2085
+}
+
+/// Spectra of a and b. The length picks the record.
 fn judge_public_key(record: &[u8], w: &Factors) -> Result<PublicKey, u32> {
-    match header(record, b"PDK") {
-        0 => {}
-        number => return Err(number),
-    }
-    let (a, b) = (words(&record[5..2053]), words(&record[2053..4101]));
-    if !(in_range(&a) & in_range(&b)) {
-        return Err(4);
-    }
+    let (a, b) = if record.len() == 2085 {
+        judge_header(record, b"PDS")?;
+        let b = words(&record[37..]);
+        if !in_range(&b) {
+            return Err(4);
+        }
+        (seeded(&record[5..37]).ok_or(8u32)?, b)
+    } else {
+        judge_header(record, b"PDK")?;
+        let (a, b) = (words(&record[5..2053]), words(&record[2053..]));
+        if !(in_range(&a) & in_range(&b)) {
+            return Err(4);
+        }
+        (a, b)
+    };
     let b = forward(&b, w);
     if has_zero(&b) {
         return Err(6);
@@ -471,10 +490,7 @@ struct SecretKey {
 }
 
 fn judge_secret_key(record: &[u8], w: &Factors, v: &Factors) -> Result<SecretKey, u32> {
-    match header(record, b"SDK") {
-        0 => {}
-        number => return Err(number),
-    }
+    judge_header(record, b"SDK")?;
     let (a, b) = (words(&record[5..2053]), words(&record[2053..4101]));
     if !(in_range(&a) & in_range(&b)) {
         return Err(4);
@@ -510,6 +526,29 @@ fn uniform(stream: &[u8]) -> Option<Element> {
         }
     }
     None
+}
+
+/// The a that a seed stands for.
+pub fn seeded(seed: &[u8]) -> Option<Element> {
+    let mut stream = [0; 2688];
+    shake128(seed, &mut stream);
+    uniform(&stream)
+}
+
+/// b and s; none where b is no unit.
+fn new_key(a: &Element, noise_s: &[u8], noise_e: &[u8]) -> Option<[Element; 2]> {
+    let (w, v) = (forward_factors(), backward_factors());
+    let (s, e) = (from_noise(noise_s), from_noise(noise_e));
+    let a_s = backward_product(&forward(a, &w), &forward(&s, &w), &v);
+    let b = multiple(to_montgomery(5), &sum(&a_s, &e));
+    (!has_zero(&forward(&b, &w))).then_some([b, s])
+}
+
+fn put_secret_key(record: &mut [u8], a: &Element, b: &Element, s: &Element) {
+    put_header(record, b"SDK");
+    put_words(a, &mut record[5..2053]);
+    put_words(b, &mut record[2053..4101]);
+    encode(s, &mut record[4101..]);
 }
 
 // ---- encapsulation and decapsulation on spectra of the key
@@ -553,19 +592,24 @@ pub fn keygen(stream: &[u8], noise_s: &[u8], noise_e: &[u8], public_key: &mut [u
         return 1;
     }
     let Some(a) = uniform(stream) else { return 8 };
-    let (w, v) = (forward_factors(), backward_factors());
-    let (s, e) = (from_noise(noise_s), from_noise(noise_e));
-    let a_s = backward_product(&forward(&a, &w), &forward(&s, &w), &v);
-    let b = multiple(to_montgomery(5), &sum(&a_s, &e));
-    if has_zero(&forward(&b, &w)) {
-        return 6;
-    }
+    let Some([b, s]) = new_key(&a, noise_s, noise_e) else { return 6 };
     put_header(public_key, b"PDK");
     put_words(&a, &mut public_key[5..2053]);
     put_words(&b, &mut public_key[2053..]);
-    put_header(secret_key, b"SDK");
-    secret_key[5..4101].copy_from_slice(&public_key[5..]);
-    encode(&s, &mut secret_key[4101..]);
+    put_secret_key(secret_key, &a, &b, &s);
+    0
+}
+
+pub fn keygen_from_seed(seed: &[u8], noise_s: &[u8], noise_e: &[u8], public_key: &mut [u8], secret_key: &mut [u8]) -> u32 {
+    if seed.len() != 32 || noise_s.len() != 512 || noise_e.len() != 512 || public_key.len() != 2085 || secret_key.len() != 4357 {
+        return 1;
+    }
+    let Some(a) = seeded(seed) else { return 8 };
+    let Some([b, s]) = new_key(&a, noise_s, noise_e) else { return 6 };
+    put_header(public_key, b"PDS");
+    public_key[5..37].copy_from_slice(seed);
+    put_words(&b, &mut public_key[37..]);
+    put_secret_key(secret_key, &a, &b, &s);
     0
 }
 
@@ -577,7 +621,7 @@ pub fn check_secret_key(secret_key: &[u8]) -> u32 {
 }
 
 pub fn encapsulate(public_key: &[u8], triple: &[u8], encapsulation: &mut [u8]) -> u32 {
-    if public_key.len() != 4101 || triple.len() != 768 || encapsulation.len() != 4096 {
+    if !is_public_key_length(public_key.len()) || triple.len() != 768 || encapsulation.len() != 4096 {
         return 1;
     }
     let (w, v) = (forward_factors(), backward_factors());
@@ -622,7 +666,7 @@ pub fn decapsulate(secret_key: &[u8], encapsulation: &[u8], dummy: &[u8], triple
 }
 
 pub fn seal(public_key: &[u8], noise: &[u8], entry: &[u8], sealed: &mut [u8]) -> u32 {
-    if public_key.len() != 4101 || noise.len() != 1536 || entry.len() != 16 || sealed.len() != 4133 {
+    if !is_public_key_length(public_key.len()) || noise.len() != 1536 || entry.len() != 16 || sealed.len() != 4133 {
         return 1;
     }
     let (w, v) = (forward_factors(), backward_factors());
@@ -651,9 +695,8 @@ pub fn open(secret_key: &[u8], sealed: &[u8], dummy_noise: &[u8], entry: &mut [u
         Ok(key) => key,
         Err(number) => return number,
     };
-    match header(sealed, b"PLG") {
-        0 => {}
-        number => return number,
+    if let Err(number) = judge_header(sealed, b"PLG") {
+        return number;
     }
     let (c1, c2) = (words(&sealed[5..2053]), words(&sealed[2053..4101]));
     if !(in_range(&c1) & in_range(&c2)) {

@@ -1,5 +1,5 @@
-//! The proved library beside its peers, all in one run: SHAKE256 beside OpenSSL's, every call beside the same algorithm in Rust, and
-//! keys, sealing and opening beside Botan's NewHope-1024. The two sides of a line take turns, and the least time of each counts.
+//! The proved library beside its peers, all in one run: SHAKE128 and SHAKE256 beside OpenSSL's, every call beside the same algorithm in
+//! Rust, and keys, sealing and opening beside Botan's NewHope-1024. The two sides of a line take turns, and the least time of each counts.
 mod botan;
 mod fast;
 #[allow(dead_code)]
@@ -8,6 +8,7 @@ mod ffi;
 mod openssl;
 mod product;
 
+use std::ffi::CStr;
 use std::hint::black_box;
 
 /// Ticks of the time stamp counter, which Botan counts too.
@@ -64,32 +65,39 @@ fn bytes(seed: u64, length: usize) -> Vec<u8> {
     (0..length).map(|_| next()).collect()
 }
 
-fn shake256() {
-    heading(&format!("SHAKE256 beside {} (EVP, one context)", openssl::version()));
-    let peer = openssl::Shake256::new();
-    for (input, output) in [(769, 48), (17, 16), (1 << 20, 32), (32, 1 << 14)] {
+fn beside_openssl() {
+    heading(&format!("SHAKE128 and SHAKE256 beside {} (EVP, one context)", openssl::version()));
+    // what a seed is turned into, and a long message
+    hash(c"SHAKE128", polka::shake128, &[(32, 2688), (1 << 20, 32)]);
+    hash(c"SHAKE256", polka::shake256, &[(769, 48), (17, 16), (1 << 20, 32), (32, 1 << 14)]);
+}
+
+/// A line for each pair of lengths.
+fn hash(name: &CStr, call: impl Fn(&[u8], &mut [u8]), lengths: &[(usize, usize)]) {
+    let peer = openssl::Shake::new(name);
+    let name = name.to_string_lossy();
+    for &(input, output) in lengths {
         let data = bytes(1, input);
         let (mut ours, mut theirs) = (vec![0; output], vec![0; output]);
-        polka::shake256(&data, &mut ours);
+        call(&data, &mut ours);
         peer.hash(&data, &mut theirs);
-        assert_eq!(ours, theirs, "SHAKE256, {input} in: the outputs differ");
+        assert_eq!(ours, theirs, "{name}, {input} in: the outputs differ");
         let calls = (200_000 / (input + output + 200)).max(1) as u32;
-        let times = in_turn(
-            200,
-            calls,
-            || polka::shake256(black_box(&data), black_box(&mut ours)),
-            || peer.hash(black_box(&data), black_box(&mut theirs)),
-        );
-        line(&format!("{input} bytes in, {output} out"), times);
+        let times =
+            in_turn(200, calls, || call(black_box(&data), black_box(&mut ours)), || peer.hash(black_box(&data), black_box(&mut theirs)));
+        line(&format!("{name}, {input} bytes in, {output} out"), times);
     }
 }
 
 /// One key and one record of each kind, made by the library and, the same, by its peer in Rust.
 struct Records {
+    seed: Vec<u8>,
+    /// What the seed stands for.
     stream: Vec<u8>,
     noise_s: Vec<u8>,
     noise_e: Vec<u8>,
     public_key: Vec<u8>,
+    seeded_public_key: Vec<u8>,
     secret_key: Vec<u8>,
     triple: Vec<u8>,
     encapsulation: Vec<u8>,
@@ -104,15 +112,32 @@ impl Records {
         let (noise, entry, dummy_noise) = (bytes(4, 1536), bytes(5, 16), bytes(6, 1536));
         // codes 0 and 1
         let triple: Vec<u8> = bytes(7, 768).iter().map(|byte| byte & 0x55).collect();
-        let (mut public_key, mut secret_key) = (vec![0; 4101], vec![0; 4357]);
+        let (mut public_key, mut seeded_public_key, mut secret_key) = (vec![0; 4101], vec![0; 2085], vec![0; 4357]);
         let (mut encapsulation, mut sealed) = (vec![0; 4096], vec![0; 4133]);
-        let (stream, noise_s, noise_e) = (1..)
-            .map(|seed| (bytes(10 * seed, 2688), bytes(10 * seed + 2, 512), bytes(10 * seed + 4, 512)))
-            .find(|(stream, noise_s, noise_e)| ffi::keygen(stream, noise_s, noise_e, &mut public_key, &mut secret_key) == 0)
+        let (seed, noise_s, noise_e) = (1..)
+            .map(|turn| (bytes(10 * turn, 32), bytes(10 * turn + 2, 512), bytes(10 * turn + 4, 512)))
+            .find(|(seed, noise_s, noise_e)| ffi::keygen_from_seed(seed, noise_s, noise_e, &mut seeded_public_key, &mut secret_key) == 0)
             .unwrap();
+        let mut stream = vec![0; 2688];
+        ffi::shake128(&seed, &mut stream);
+        assert_eq!(ffi::keygen(&stream, &noise_s, &noise_e, &mut public_key, &mut secret_key), 0);
         assert_eq!(ffi::encapsulate(&public_key, &triple, &mut encapsulation), 0);
         assert_eq!(ffi::seal(&public_key, &noise, &entry, &mut sealed), 0);
-        let made = Records { stream, noise_s, noise_e, public_key, secret_key, triple, encapsulation, noise, entry, sealed, dummy_noise };
+        let made = Records {
+            seed,
+            stream,
+            noise_s,
+            noise_e,
+            public_key,
+            seeded_public_key,
+            secret_key,
+            triple,
+            encapsulation,
+            noise,
+            entry,
+            sealed,
+            dummy_noise,
+        };
         made.agree();
         made
     }
@@ -131,15 +156,28 @@ impl Records {
             out
         });
         assert!(products[0] == products[1], "the products differ");
-        let (mut public_key, mut secret_key) = (vec![0; 4101], vec![0; 4357]);
-        assert_eq!(fast::keygen(&self.stream, &self.noise_s, &self.noise_e, &mut public_key, &mut secret_key), 0);
-        assert!(public_key == self.public_key && secret_key == self.secret_key, "the keys differ");
-        let mut encapsulation = vec![0; 4096];
-        assert_eq!(fast::encapsulate(&self.public_key, &self.triple, &mut encapsulation), 0);
-        assert!(encapsulation == self.encapsulation, "the encapsulations differ");
-        let mut sealed = vec![0; 4133];
-        assert_eq!(fast::seal(&self.public_key, &self.noise, &self.entry, &mut sealed), 0);
-        assert!(sealed == self.sealed, "the sealed entries differ");
+        let sources: [(Keygen, &[u8], &[u8]); 3] = [
+            (fast::keygen, &self.stream, &self.public_key),
+            (ffi::keygen_from_seed, &self.seed, &self.seeded_public_key),
+            (fast::keygen_from_seed, &self.seed, &self.seeded_public_key),
+        ];
+        for (keygen, source, expected) in sources {
+            let (mut public_key, mut secret_key) = (vec![0; expected.len()], vec![0; 4357]);
+            assert_eq!(keygen(source, &self.noise_s, &self.noise_e, &mut public_key, &mut secret_key), 0);
+            assert!(public_key == expected && secret_key == self.secret_key, "the keys differ");
+        }
+        for public_key in [&self.public_key, &self.seeded_public_key] {
+            for encapsulate in [ffi::encapsulate, fast::encapsulate] {
+                let mut encapsulation = vec![0; 4096];
+                assert_eq!(encapsulate(public_key, &self.triple, &mut encapsulation), 0);
+                assert!(encapsulation == self.encapsulation, "the encapsulations differ");
+            }
+            for seal in [ffi::seal, fast::seal] {
+                let mut sealed = vec![0; 4133];
+                assert_eq!(seal(public_key, &self.noise, &self.entry, &mut sealed), 0);
+                assert!(sealed == self.sealed, "the sealed entries differ");
+            }
+        }
         for open in [ffi::open, fast::open] {
             let mut entry = vec![0; 16];
             assert_eq!(open(&self.secret_key, &self.sealed, &self.dummy_noise, &mut entry), 0);
@@ -157,11 +195,11 @@ type Keygen = fn(&[u8], &[u8], &[u8], &mut [u8], &mut [u8]) -> u32;
 type ThreeIn = fn(&[u8], &[u8], &[u8], &mut [u8]) -> u32;
 type TwoIn = fn(&[u8], &[u8], &mut [u8]) -> u32;
 
-fn keygen_of(call: Keygen, records: &Records) -> impl FnMut() + '_ {
-    let (mut public_key, mut secret_key) = (vec![0; 4101], vec![0; 4357]);
+/// `source` is a stream or a seed.
+fn keygen_of<'a>(call: Keygen, source: &'a [u8], records: &'a Records, output: usize) -> impl FnMut() + 'a {
+    let (mut public_key, mut secret_key) = (vec![0; output], vec![0; 4357]);
     move || {
-        let done =
-            call(black_box(&records.stream), black_box(&records.noise_s), &records.noise_e, &mut public_key, black_box(&mut secret_key));
+        let done = call(black_box(source), black_box(&records.noise_s), &records.noise_e, &mut public_key, black_box(&mut secret_key));
         assert_eq!(done, 0);
     }
 }
@@ -180,19 +218,26 @@ fn beside_rust(records: &Records) {
     heading("Calls beside the same algorithm in Rust");
     const ROUNDS: u32 = 150;
     const CALLS: u32 = 10;
-    let Records { public_key, secret_key, triple, encapsulation, noise, entry, sealed, dummy_noise, .. } = records;
+    let Records { seed, stream, public_key, seeded_public_key, secret_key, triple, .. } = records;
+    let Records { encapsulation, noise, entry, sealed, dummy_noise, .. } = records;
     let product = |call| two_in(call, records.elements(), 2048);
     line("product", in_turn(ROUNDS, CALLS, product(product::product), product(fast::product)));
-    let times = in_turn(ROUNDS, CALLS, keygen_of(ffi::keygen, records), keygen_of(fast::keygen, records));
-    line("key generation", times);
+    let keygen = |call| keygen_of(call, stream, records, 4101);
+    line("key generation", in_turn(ROUNDS, CALLS, keygen(ffi::keygen), keygen(fast::keygen)));
+    let keygen = |call| keygen_of(call, seed, records, 2085);
+    line("key generation from a seed", in_turn(ROUNDS, CALLS, keygen(ffi::keygen_from_seed), keygen(fast::keygen_from_seed)));
     let check = |call: fn(&[u8]) -> u32| move || assert_eq!(call(black_box(secret_key)), 0);
     line("key check", in_turn(ROUNDS, CALLS, check(ffi::check_secret_key), check(fast::check_secret_key)));
-    let encapsulate = |call| two_in(call, [public_key, triple], 4096);
-    line("encapsulate", in_turn(ROUNDS, CALLS, encapsulate(ffi::encapsulate), encapsulate(fast::encapsulate)));
+    for (what, key) in [("encapsulate", public_key), ("encapsulate, seeded public key", seeded_public_key)] {
+        let encapsulate = |call| two_in(call, [key, triple], 4096);
+        line(what, in_turn(ROUNDS, CALLS, encapsulate(ffi::encapsulate), encapsulate(fast::encapsulate)));
+    }
     let decapsulate = |call| three_in(call, [secret_key, encapsulation, triple], 768);
     line("decapsulate", in_turn(ROUNDS, CALLS, decapsulate(ffi::decapsulate), decapsulate(fast::decapsulate)));
-    let seal = |call| three_in(call, [public_key, noise, entry], 4133);
-    line("seal", in_turn(ROUNDS, CALLS, seal(ffi::seal), seal(fast::seal)));
+    for (what, key) in [("seal", public_key), ("seal, seeded public key", seeded_public_key)] {
+        let seal = |call| three_in(call, [key, noise, entry], 4133);
+        line(what, in_turn(ROUNDS, CALLS, seal(ffi::seal), seal(fast::seal)));
+    }
     let open = |call| three_in(call, [secret_key, sealed, dummy_noise], 16);
     line("open", in_turn(ROUNDS, CALLS, open(ffi::open), open(fast::open)));
 }
@@ -227,6 +272,9 @@ fn parts(records: &Records) {
     alone("polynomial from noise (seal 3, open 3)", &mut || {
         black_box(fast::from_noise(black_box(&records.noise[..512])));
     });
+    alone("a of a seed (seeded public key 1)", &mut || {
+        black_box(fast::seeded(black_box(&records.seed)));
+    });
     let mut out = [0; 48];
     alone("SHAKE256 of a triple (seal 1, open 1)", &mut || fast::shake256(black_box(&records.sealed[..769]), black_box(&mut out)));
     alone("product in the tag's field (seal 1, open 1)", &mut || {
@@ -240,26 +288,40 @@ fn beside_newhope(records: &Records) {
         return;
     };
     heading(&format!("Calls beside NewHope-1024 of Botan {version}"));
-    let mut keygen = keygen_of(ffi::keygen, records);
-    let mut seal = three_in(ffi::seal, [&records.public_key, &records.noise, &records.entry], 4133);
+    let seal_under = |key| three_in(ffi::seal, [key, &records.noise, &records.entry], 4133);
+    let mut keygen = keygen_of(ffi::keygen, &records.stream, records, 4101);
+    let mut keygen_from_seed = keygen_of(ffi::keygen_from_seed, &records.seed, records, 2085);
+    let mut seal = seal_under(&records.public_key);
+    let mut seal_seeded = seal_under(&records.seeded_public_key);
     let mut open = three_in(ffi::open, [&records.secret_key, &records.sealed, &records.dummy_noise], 16);
-    let mut least = [f64::MAX; 5];
+    let mut least = [f64::MAX; 7];
     // Botan's runs are short, about as long as a batch of ours: a long mean would count what else the machine does.
     for _ in 0..100 {
         let Some(peer) = botan::speed(3) else {
             println!("botan speed gave no figures for NEWHOPE");
             return;
         };
-        let round = [time(10, &mut keygen), time(10, &mut seal), time(10, &mut open), peer.keygen, peer.responder];
+        let round = [
+            time(10, &mut keygen),
+            time(10, &mut keygen_from_seed),
+            time(10, &mut seal),
+            time(10, &mut seal_seeded),
+            time(10, &mut open),
+            peer.keygen,
+            peer.responder,
+        ];
         for (least, new) in least.iter_mut().zip(round) {
             *least = least.min(new);
         }
     }
-    let [keygen, seal, open, peer_keygen, peer_responder] = least;
+    let [keygen, keygen_from_seed, seal, seal_seeded, open, peer_keygen, peer_responder] = least;
     line("key generation, key generation", (keygen, peer_keygen));
+    line("key generation from a seed, key generation", (keygen_from_seed, peer_keygen));
     line("seal, responder (aim: 2.00)", (seal, peer_responder));
+    line("seal, seeded public key, responder", (seal_seeded, peer_responder));
     line("open, responder (aim: 1.00)", (open, peer_responder));
-    println!("NewHope draws its own random bytes and expands its own a; ours are lent. Means of 3 ms for NewHope, of 10 calls for ours.");
+    println!("NewHope draws its own random bytes; ours are lent. It expands its own a; ours do so under a seed alone.");
+    println!("Means of 3 ms for NewHope, of 10 calls for ours.");
 }
 
 fn machine() -> String {
@@ -274,7 +336,7 @@ fn main() {
     println!("Ours: the archive {}; for the product target/staticlib/libring_product.a.", env!("POLKA_LINKED"));
     println!("Rust: opt-level 3, baseline {}.", std::env::consts::ARCH);
     println!("Buffers: the same each round, in cache; tables of factors made once a call on both sides.");
-    shake256();
+    beside_openssl();
     let records = Records::new();
     beside_rust(&records);
     parts(&records);

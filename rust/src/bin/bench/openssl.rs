@@ -1,5 +1,5 @@
-//! OpenSSL's SHAKE256, its context made once and used again.
-use std::ffi::{c_char, c_int, c_void};
+//! OpenSSL's SHAKE128 and SHAKE256, the context made once and used again.
+use std::ffi::{c_char, c_int, c_void, CStr};
 
 #[link(name = "crypto")]
 extern "C" {
@@ -11,17 +11,17 @@ extern "C" {
     fn OpenSSL_version(kind: c_int) -> *const c_char;
 }
 
-pub struct Shake256 {
+pub struct Shake {
     md: *mut c_void,
     ctx: *mut c_void,
 }
 
-impl Shake256 {
-    pub fn new() -> Self {
+impl Shake {
+    pub fn new(name: &CStr) -> Self {
         // SAFETY: the name is a C string; both results are checked. They live as long as the program.
-        let (md, ctx) = unsafe { (EVP_MD_fetch(std::ptr::null_mut(), c"SHAKE256".as_ptr(), std::ptr::null()), EVP_MD_CTX_new()) };
+        let (md, ctx) = unsafe { (EVP_MD_fetch(std::ptr::null_mut(), name.as_ptr(), std::ptr::null()), EVP_MD_CTX_new()) };
         assert!(!md.is_null() && !ctx.is_null());
-        Shake256 { md, ctx }
+        Shake { md, ctx }
     }
 
     pub fn hash(&self, input: &[u8], out: &mut [u8]) {
@@ -37,5 +37,5 @@ impl Shake256 {
 
 pub fn version() -> String {
     // SAFETY: OpenSSL answers a C string that it never frees.
-    unsafe { std::ffi::CStr::from_ptr(OpenSSL_version(0)) }.to_string_lossy().into_owned()
+    unsafe { CStr::from_ptr(OpenSSL_version(0)) }.to_string_lossy().into_owned()
 }
