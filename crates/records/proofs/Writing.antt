@@ -20,5 +20,5 @@ length-recordBytes mark version first second =
     omega (arith, length-append (h ++ x) y, length-append h x, length-header mark version, length-elementBytes first, length-elementBytes second)
 
 -- an argument is compared by itself, so that a wrong one is seen at once
-pub argument-is : (f : List ℕ → List ℕ) (given meant : List ℕ) {out : List ℕ} → out ≡ f given → given ≡ meant → out ≡ f meant
+pub argument-is : {B : Type 0} (f : List ℕ → B) (given meant : List ℕ) {out : B} → out ≡ f given → given ≡ meant → out ≡ f meant
 argument-is f given meant written same = written ∙ ap f same

@@ -2,7 +2,7 @@
 use mathlib.Core.Path.{_≡_, refl, sym, ap, ap₂, _∙_}
 use mathlib.Core.List.{List, [], _∷_, _++_, append-assoc}
 use Prim.Native.Nat.{ℕ, zero, suc, _+_, _*_, _-_, _/_, _%_, _<_, _≤_}
-use native.Mathlib.Nat.{mul-suc, mul-div-le, mul-le-mul-left, mul-le-mul-right, le-trans, le-of-eq, mod-lt, div-add-mod, mul-div-cancel-left, sub-zero}
+use native.Mathlib.Nat.{mul-suc, mul-div-le, mul-le-mul-left, mul-le-mul-right, le-trans, le-of-eq, mod-lt, div-add-mod, mul-div-cancel-left, mul-add-div, div-eq-of-lt, add-zero, sub-zero}
 use native.Mathlib.Numerals.{add-one}
 use native.Mathlib.Omega.{arith}
 use lib.ListN.{length, take, drop, set, length-append, length-drop, length-replicate}
@@ -23,6 +23,12 @@ pub start-fits : (r n k : ℕ) → k ≤ n / r → r * k ≤ n
 start-fits r n k h = le-trans (mul-le-mul-left r h) (mul-div-le n r)
 
 -- there are fewer blocks than bytes
+-- fewer than r bytes are left, so block k is the last
+pub last-place : (r n k : ℕ) → k ≤ n / r → n - r * k < r → k ≡ n / r
+last-place r n k h l =
+    let parts : n ≡ r * k + (n - r * k) = omega (arith, start-fits r n k h) in
+    sym (ap (λ (x : ℕ). x / r) parts ∙ mul-add-div (omega arith) k (n - r * k) ∙ ap (λ (x : ℕ). k + x) (div-eq-of-lt l) ∙ add-zero k)
+
 pub blocks-few : (r n : ℕ) → 1 < r → 2 * (n / r) ≤ n
 blocks-few r n h = le-trans (mul-le-mul-right (n / r) h) (mul-div-le n r)
 
@@ -102,16 +108,15 @@ module _ (r : ℕ) (some : 0 < r) (m : List ℕ) where
       length-append m (padding (r - length m % r)) ∙ ap (λ (k : ℕ). length m + k) (length-padding (r - length m % r)) ∙ omega (arith, fit, mul-suc r n) in
       ap (λ (k : ℕ). k / r) e ∙ mul-div-cancel-left (suc n) some
 
-  -- the last block is the front of b, where t is what is left of the message
+  -- b is the last block and zeros, where t is what is left of the message
   pub block-end : (k : ℕ) (t b : List ℕ) → k ≡ length m / r → t ≡ take (length m - r * k) (drop (r * k) m)
-      → b ≡ (t ++ padding (r - length t)) ++ zeros (200 - r) → take (r - 0) b ≡ block r k (padded r m)
+      → b ≡ (t ++ padding (r - length t)) ++ zeros (200 - r) → b ≡ block r k (padded r m) ++ zeros (200 - r)
   unfolding n rest
   block-end k t b e f g =
       let whole : t ≡ drop (r * n) m = f ∙ rw e (take-all _ (drop (r * n) m) (le-of-eq (length-drop (r * n) m))) in
-      let left : length t < r = rw (whole, length-rest) (rest-fits r (length m) some .2) in
-      let size : length (t ++ padding (r - length t)) ≡ r = length-append t (padding (r - length t)) ∙ omega (arith, length-padding (r - length t)) in
-      ap₂ (λ (k : ℕ) (l : List ℕ). take k l) (sub-zero r) g ∙ take-at (t ++ padding (r - length t)) (zeros (200 - r)) r size
-      ∙ ap (λ (l : List ℕ). l ++ padding (r - length l)) whole ∙ sym block-last ∙ ap (λ (k : ℕ). block r k (padded r m)) (sym e)
+      g
+      ∙ ap (λ (l : List ℕ). l ++ zeros (200 - r))
+      (ap (λ (l : List ℕ). l ++ padding (r - length l)) whole ∙ sym block-last ∙ ap (λ (k : ℕ). block r k (padded r m)) (sym e))
 
   -- all blocks are absorbed
   pub absorb-all : absorbed r (length m / r + 1) (padded r m) ≡ absorb r (padded r m)

@@ -48,11 +48,11 @@ fn block_words(rate: usize, input: &[u8], k: usize) -> [u64; 25]
     ensures { λ r. ⌜ r ≡ table 25 (word (block rate k (padded rate (now (input .entry))))) ⌝ }
 {
     let at = rate * k;
-    if k < input.len() / rate {
+    if input.len() - at >= rate {
         return string_to_state::words(&input[at..at + rate]);
     }
     let b = last_block(rate, &input[at..]);
-    string_to_state::words(&b[0..rate])
+    string_to_state::words(&b)
 }
 
 // Algorithm 8, steps 1 to 6, for a message that is padded here. The permutation stands in one place: the compiler then copies no state.

@@ -7,22 +7,25 @@ ghost use Rattle.lists.specs.Table.{table};
 ghost use Rattle.keccak_steps.specs.Steps.{lane, plane, state};
 ghost use Rattle.string_to_state.specs.Words.{word};
 
-// Lane k of a string.
+// Lane k of a string of whole lanes, and 0 past its end.
 fn word(b: &[u8], k: usize) -> u64
-    requires { ⌜ 8 * k + 8 ≤ length (now b) ⌝ }
+    requires { ⌜ (length (now b) % 8 ≡ 0) × (k < 25) ⌝ }
     ensures { λ r. ⌜ r ≡ word (now (b .entry)) k ⌝ }
 {
-    octets::word64_at(b, 8 * k)
+    let at = 8 * k;
+    if at >= b.len() {
+        return 0;
+    }
+    octets::word64_at(b, at)
 }
 
-// The lanes of a string of whole lanes, and zeros up to 25.
+// The lanes of a string of whole lanes, and zeros up to 25. All 25 are looked at, so that a string of any rate is read without a copy.
 pub fn words(b: &[u8]) -> [u64; 25]
-    requires { ⌜ (length (now b) % 8 ≡ 0) × (length (now b) ≤ 200) ⌝ }
+    requires { ⌜ length (now b) % 8 ≡ 0 ⌝ }
     ensures { λ r. ⌜ r ≡ table 25 (word (now (b .entry))) ⌝ }
 {
     let mut w = [0u64; 25];
-    let n = b.len() / 8;
-    for k in 0..n {
+    for k in 0..25 {
         w[k] = word(b, k);
     }
     w

@@ -1,11 +1,15 @@
-use mathlib.Core.Path.{_≡_, sym, _∙_}
+use mathlib.Core.Path.{_≡_, refl, sym, _∙_}
 use mathlib.Core.Bool.{false}
+use mathlib.Core.List.{List}
+use Prim.Native.Nat.{ℕ}
 use native.Mathlib.Omega.{arith}
 use denote.Ref.{now}
 use lib.ListN.{length}
 use borrow.Author.Tests.{ne-eqb}
 use Rattle.records.specs.Layout.{publicKeyMark, publicKeyLength, seededKeyLength}
+use Rattle.records.specs.Records.{headerAnswer}
 use Rattle.records.proofs.Checks.{front-checked}
+use Rattle.records.proofs.Writing.{argument-is}
 use Rattle.public_keys.specs.PublicKeys.{seeded?}
 use Rattle.public_keys.proofs.EitherKind.{long-a, long-b, long-record, long-stream}
 use borrow.Author.Needs.{needs}
@@ -26,8 +30,9 @@ returns c =
     let k = now (start .args .bytes) in
     let size : length k ≡ publicKeyLength = start .pre in
     let kind : seeded? k ≡ false = ne-eqb (length k) seededKeyLength (λ e. omega arith) in
-    let (header, (elements, places)) = read .read-record .ensures in (
-      (front-checked publicKeyMark 1 k header places (judged .front-answer .ensures) ∙ sym (long-record k kind), sym (long-stream k kind)),
+    let (header, (elements, places)) = read .read-record .ensures in
+    let marked = argument-is (λ (mark : List ℕ). headerAnswer mark 1 k) _ publicKeyMark header refl in (
+      (front-checked publicKeyMark 1 k marked places (judged .front-answer .ensures) ∙ sym (long-record k kind), sym (long-stream k kind)),
       (elements .0 ∙ sym (long-a k kind), elements .1 ∙ sym (long-b k kind)),
     )
 

@@ -1,5 +1,9 @@
-use mathlib.Core.Path.{ap, _∙_}
-use Rattle.encoding.specs.Words.{firstUnreduced}
+use mathlib.Core.Path.{refl, ap, _∙_}
+use denote.Ref.{now}
+use Rattle.encoding.specs.Words.{elementOf, firstUnreduced}
+use Rattle.records.specs.Layout.{elementLength, seededBPlace}
+use Rattle.records.specs.Records.{part}
+use Rattle.records.proofs.Writing.{argument-is}
 use borrow.Author.Needs.{needs}
 use Rattle.seeded_records.proofs.read_seeded_key.Statement.{statement}
 use Rattle.seeded_records.proofs.read_seeded_key.Tie as tie
@@ -24,7 +28,9 @@ first-unreduced-requires c κs = search needs
 
 returns : tie.Need-returns
 returns c =
-    let b = c .before .before .decode-element .ensures in
+    let read = c .before .before in
+    let bytes = now (read .before .before .before .args .bytes) in
+    let b = argument-is elementOf _ (part seededBPlace elementLength bytes) (read .decode-element .ensures) refl in
     (c .before .check-header .ensures, (b, c .first-unreduced .ensures ∙ ap firstUnreduced b))
 
 pub read-seeded-key-spec : {M : Type 1} → statement M

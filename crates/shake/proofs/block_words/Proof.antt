@@ -1,16 +1,16 @@
 use mathlib.Core.Path.{_≡_, refl, sym, ap, _∙_}
 use mathlib.Core.List.{List}
 use Prim.Native.Nat.{ℕ, _≤_, _-_, _/_, _+_, _*_}
-use native.Mathlib.Nat.{sub-zero}
 use native.Mathlib.Omega.{arith}
 use lib.ListN.{length, take, drop}
 use denote.Ref.{now}
 use Rattle.lists.specs.Table.{table}
 use Rattle.lists.proofs.Parts.{length-part}
 use Rattle.string_to_state.specs.Words.{word}
+use Rattle.string_to_state.proofs.Lanes.{words-zeros}
 use Rattle.shake.specs.Sponge.{block}
 use Rattle.shake.specs.Shake.{padded}
-use Rattle.shake.proofs.Blocks.{block-fits, start-fits, rest-fits, block-inside, block-end}
+use Rattle.shake.proofs.Blocks.{start-fits, last-place, rest-fits, block-inside, block-end}
 use borrow.Author.Needs.{needs}
 use Rattle.shake.proofs.block_words.Statement.{statement}
 use Rattle.shake.proofs.block_words.Tie as tie
@@ -18,13 +18,13 @@ use Rattle.shake.proofs.block_words.Tie as tie
 mul-at : tie.Need-mul-at
 mul-at c = omega (arith, start-fits _ _ _ (c .before .pre .1))
 
-div-if1 : tie.Need-div-if1
-div-if1 c = search needs
+sub-if1 : tie.Need-sub-if1
+sub-if1 c = start-fits _ _ _ (c .before .pre .1)
 
 -- block k lies within the message
 fits : (c : tie.Then1) →
     c .before .before .args .rate * c .before .before .args .k + c .before .before .args .rate ≤ length (now (c .before .before .args .input))
-fits c = block-fits _ _ _ (c .if1 .taken)
+fits c = omega (arith, start-fits _ _ _ (c .before .before .pre .1), c .if1 .taken)
 
 add-words : tie.Need-add-words
 add-words c = omega (arith, fits c)
@@ -44,7 +44,7 @@ words-requires c κs =
     let r = start .args .rate in
     let at = r * start .args .k in
     let size : at + r - at ≡ r = omega arith in
-    rw (length-part at (at + r) (now (start .args .input)) (fits (c .before)), size) (start .pre .0 .lanes, start .pre .0 .most)
+    rw (length-part at (at + r) (now (start .args .input)) (fits (c .before)), size) (start .pre .0 .lanes)
 
 returns : tie.Need-returns
 returns c =
@@ -71,42 +71,35 @@ last-block-requires c κs =
     let start = c .before .before .before in
     let r = start .args .rate in
     let m = now (start .args .input) in
-    let last : start .args .k ≡ length m / r = omega (arith, start .pre .1, c .before .if1 .left) in
+    let last : start .args .k ≡ length m / r = last-place r (length m) (start .args .k) (start .pre .1) (omega (arith, c .before .if1 .left)) in
     let fit = rest-fits r (length m) (start .pre .0 .some) in
     (rw (last, length-part (r * (length m / r)) (length m) m (omega arith)) (omega (arith, fit .1, fit .2)), start .pre .0 .most)
 
-sub-words-2 : tie.Need-sub-words-2
-sub-words-2 c = search needs
-
-part-words-start-2 : tie.Need-part-words-start-2
-part-words-start-2 c = search needs
-
-part-words-end-2 : tie.Need-part-words-end-2
-part-words-end-2 c = search needs
+slice-aggregate-words : tie.Need-slice-aggregate-words
+slice-aggregate-words c = search needs
 
 words-requires-2 : tie.Need-words-requires-2
-words-requires-2 c κs =
-    let start = c .before .before .before .before .before .before in
-    let b = c .before .before .last-block .result in
-    let size : length b ≡ 200 = search needs in
-    let rate = start .pre .0 in
-    rw (length-part 0 (start .args .rate) b (omega (arith, rate .most)), sub-zero) (rate .lanes, rate .most)
+words-requires-2 c κs = search needs
 
 returns-2 : tie.Need-returns-2
 returns-2 c =
-    let start = c .before .before .before .before .before .before .before in
+    let made = c .before .before in
+    let left = made .before .before in
+    let start = left .before .before in
     let r = start .args .rate in
     let m = now (start .args .input) in
-    let last : start .args .k ≡ length m / r = omega (arith, start .pre .1, c .before .before .before .before .before .if1 .left) in
+    let k = start .args .k in
+    let last : k ≡ length m / r = last-place r (length m) k (start .pre .1) (omega (arith, left .if1 .left)) in
     c .words2 .ensures
-    ∙ ap (λ (b : List ℕ). table 25 (word b)) (block-end r (start .pre .0 .some) m (start .args .k) _ _ last refl (c .before .before .before .last-block .ensures))
+    ∙ ap (λ (b : List ℕ). table 25 (word b)) (block-end r (start .pre .0 .some) m k _ _ last refl (made .last-block .ensures))
+    ∙ words-zeros (block r k (padded r m)) (200 - r)
 
 pub block-words-spec : {M : Type 1} → statement M
 block-words-spec =
     tie.close
     (tie.spec
     mul-at
-    div-if1
+    sub-if1
     add-words
     sub-words
     part-words-start
@@ -117,8 +110,6 @@ block-words-spec =
     part-last-block-start
     part-last-block-end
     last-block-requires
-    sub-words-2
-    part-words-start-2
-    part-words-end-2
+    slice-aggregate-words
     words-requires-2
     returns-2)

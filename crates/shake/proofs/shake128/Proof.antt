@@ -1,4 +1,8 @@
 use mathlib.Core.Path.{ap, _∙_}
+use denote.Ref.{now}
+use lib.ListN.{length}
+use Rattle.keccak_steps.specs.Steps.{State}
+use Rattle.shake.specs.Sponge.{squeeze}
 use borrow.Author.Needs.{needs}
 use Rattle.shake.specs.Shake.{shake, shake128}
 use Rattle.shake.proofs.shake128.Statement.{statement}
@@ -15,7 +19,9 @@ same-length c = search needs
 
 returns : tie.Need-returns
 unfolding shake128 shake
-returns c = cc
+returns c =
+    let room = length (now (c .before .before .before .before .before .before .before .args .out)) in
+    c .before .before .squeeze .ensures ∙ ap (λ (s : State). squeeze 168 s room) (c .before .before .before .before .absorb .ensures)
 
 pub shake128-spec : {M : Type 1} → statement M
 shake128-spec = tie.close (tie.spec absorb-requires squeeze-requires same-length returns)

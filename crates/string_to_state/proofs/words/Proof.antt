@@ -1,25 +1,23 @@
-use mathlib.Core.Path.{_≡_, refl, sym, _∙_}
-use Prim.Native.Nat.{_≤_, _-_, _/_}
+use mathlib.Core.Path.{refl}
+use Prim.Native.Nat.{_-_}
 use denote.Ref.{now}
 use native.Mathlib.Omega.{arith}
-use lib.ListN.{length}
 use Rattle.lists.specs.Table.{table}
-use Rattle.lists.proofs.Tables.{length-table, getD-table}
-use Rattle.lists.proofs.Fill.{ZeroFilled, zero-filled-none, zero-filled-more, zero-filled-all}
+use Rattle.lists.proofs.Tables.{length-table}
+use Rattle.lists.proofs.Fill.{Filled, filled-none, filled-more-by, filled-all}
 use Rattle.string_to_state.specs.Words.{word}
-use Rattle.string_to_state.proofs.Lanes.{words-zeros}
 use borrow.Author.Needs.{needs}
 use Rattle.string_to_state.proofs.words.Statement.{statement}
 use Rattle.string_to_state.proofs.words.Tie as tie
 
 abbrev Inv-loop : tie.InvT-loop
-Inv-loop b w₀ n k₀ w k = ZeroFilled 25 (table n (word b)) w k
+Inv-loop b w₀ k₀ w k = Filled 25 (table 25 (word b)) w k
 
 abbrev μ-loop : tie.MeasureT-loop
-μ-loop b w₀ n k₀ w k = n - k
+μ-loop b w₀ k₀ w k = 25 - k
 
 loop-holds : tie.Need-loop-holds Inv-loop μ-loop
-loop-holds c = zero-filled-none 25 _ _ (rw length-table (omega arith)) refl
+loop-holds c = filled-none _ _ (length-table 25 _) refl
 
 word-requires : tie.Need-word-requires Inv-loop μ-loop
 word-requires c κs = search needs
@@ -38,15 +36,10 @@ loop-less c = search needs
 
 loop-again : tie.Need-loop-again Inv-loop μ-loop
 loop-again c =
-    let h = c .before .loop-test .taken in
-    zero-filled-more (c .before .before .loop .inv) (rw length-table h) (c .word .ensures ∙ sym (getD-table _ (word (now (c .before .before .before .before .args .b))) _ 0 h))
+    filled-more-by (word (now (c .before .before .before .before .args .b))) 0 (c .before .before .loop .inv) (c .before .loop-test .taken) (c .word .ensures)
 
 returns : tie.Need-returns Inv-loop μ-loop
-returns c =
-    let b = now (c .before .before .before .args .b) in
-    let pre = c .before .before .before .pre in
-    zero-filled-all (c .before .loop .inv) (rw length-table (c .loop-test .left))
-    ∙ rw (length-table (length b / 8) (word b)) (words-zeros b 25 (pre .0) (pre .1))
+returns c = filled-all (c .before .loop .inv) (c .loop-test .left)
 
 pub words-spec : {M : Type 1} → statement M
 words-spec =
