@@ -1,6 +1,6 @@
-// Makes a key. Standard input is 3,712 random bytes: the stream (2,688), the noise of s (512) and the noise of e (512). Standard
-// output is the public key (4,101 bytes) and, behind it, the secret key (4,357). A refusal writes its number to standard error and
-// nothing else. The exit status is always 0, since the language has no other.
+// Makes a key. Standard input is random bytes: a stream (2,688) or a seed (32), the noise of s (512) and the noise of e (512), so 3,712
+// bytes or 1,056. Standard output is the public key (4,101 bytes, or 2,085 from a seed) and, behind it, the secret key (4,357). A refusal
+// writes its number to standard error and nothing else. The exit status is always 0, since the language has no other.
 use make_key_output::INPUT_LENGTH;
 use records::PUBLIC_KEY_LENGTH;
 use records::SECRET_KEY_LENGTH;
@@ -13,7 +13,7 @@ use libc::STDERR_FILENO;
 use libc::STDIN_FILENO;
 use libc::STDOUT_FILENO;
 
-// One byte more than the input has, so that longer input is told from input that fits, and an endless one ends.
+// One byte more than the longer input has, so that longer input is told from input that fits, and an endless one ends.
 fn input_buffer() -> [u8; INPUT_LENGTH + 1]
     ensures { λ r. ⌜ r ≡ zeros (inputLength + 1) ⌝ }
 {

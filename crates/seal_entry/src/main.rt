@@ -1,6 +1,6 @@
-// Seals an entry. Standard input is the public key (4,101 bytes), 1,536 random bytes of noise and the entry (16). Standard output is
-// the sealed entry (4,133 bytes). A refusal writes its number to standard error and nothing else. The exit status is always 0,
-// since the language has no other.
+// Seals an entry. Standard input is a public key of either kind (4,101 bytes, or 2,085 with a seed), 1,536 random bytes of noise and the
+// entry (16), so 5,653 bytes or 3,637. Standard output is the sealed entry (4,133 bytes). A refusal writes its number to standard error and
+// nothing else. The exit status is always 0, since the language has no other.
 use records::SEALED_ENTRY_LENGTH;
 use seal_entry_output::INPUT_LENGTH;
 ghost use mathlib.Core.Path.{_≡_};
@@ -12,7 +12,7 @@ use libc::STDERR_FILENO;
 use libc::STDIN_FILENO;
 use libc::STDOUT_FILENO;
 
-// One byte more than the input has, so that longer input is told from input that fits, and an endless one ends.
+// One byte more than the longer input has, so that longer input is told from input that fits, and an endless one ends.
 fn input_buffer() -> [u8; INPUT_LENGTH + 1]
     ensures { λ r. ⌜ r ≡ zeros (inputLength + 1) ⌝ }
 {

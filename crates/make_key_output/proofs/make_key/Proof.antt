@@ -15,6 +15,9 @@ line-requires c κs = search needs
 enum-told : tie.Need-enum-told
 enum-told c = search needs
 
+public-length-requires : tie.Need-public-length-requires
+public-length-requires c κs = search needs
+
 same-length : tie.Need-same-length
 same-length c = search needs
 
@@ -24,18 +27,19 @@ same-length-2 c = search needs
 returns : tie.Need-returns
 unfolding standardError
 returns c =
-    let made = c .before .before .before .before .before .before .before in
+    let lined = c .before .before .before in
+    let made = lined .before .before .before .before .before in
     let start = made .before .before .before .before .before .before in
     let input = now (start .args .input) in
     let (answered, (public, secret)) = made .keys-of .ensures in
-    let told = c .enum-told .given .1 in
-    let public-size = made .keys-of .kept .1 .0 ∙ start .pre .0 in
-    let secret-size = made .keys-of .kept .1 .1 .0 ∙ start .pre .1 in
-    let output = output-done input (sym answered ∙ told) (rw told at public) (rw told at secret) public-size secret-size in (
+    let told = c .before .enum-told .given .1 in
+    let (public-size, secret-size) = start .pre in
+    let output = output-done input (now (start .args .public)) (sym answered ∙ told) (rw told at public) (rw told at secret) public-size
+    (made .keys-of .kept .1 .1 .0 ∙ secret-size) (c .public-length .ensures) in (
       rw answered at public,
       (
         rw answered at secret,
-        (output .public-length, (output .secret-length, (output .bytes, rw answered at (c .before .before .line .ensures)))),
+        (output .public-length, (output .secret-length, (output .bytes, rw answered at (lined .line .ensures)))),
       ),
     )
 
@@ -70,6 +74,7 @@ make-key-spec =
     keys-of-requires
     line-requires
     enum-told
+    public-length-requires
     same-length
     same-length-2
     returns
