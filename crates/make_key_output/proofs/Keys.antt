@@ -4,21 +4,18 @@ use mathlib.Core.Bool.{Bool, true, false}
 use mathlib.Core.List.{List, _++_}
 use Prim.Native.Nat.{ℕ, _≤_}
 use native.Mathlib.Omega.{arith}
-use lib.ListN.{length, take, drop, length-append, take-append-drop}
+use lib.ListN.{length, take, drop, take-append-drop}
 use lib.Seq.{take-all, length-take-le}
 use borrow.Author.Tests.{eqb-true, ne-eqb}
-use Rattle.encoding.specs.Words.{elementBytes}
-use Rattle.encoding.specs.Header.{header}
-use Rattle.encoding.proofs.Words.{length-elementBytes}
-use Rattle.encoding.proofs.Headers.{length-header}
 use Rattle.seeds.specs.Seeds.{seedStream}
 use Rattle.answers.specs.declared.Refusal.the-variants.{WrongLength}
 use Rattle.answers.specs.declared.Answer.{Answer}
 use Rattle.answers.specs.declared.Answer.the-variants.{Done, Refused}
 use Rattle.answers.specs.Answers.{onDone}
-use Rattle.records.specs.Layout.{publicKeyMark, seededKeyMark}
-use Rattle.records.specs.Records.{part, seededKeyBytes}
+use Rattle.records.specs.Layout.{publicKeyMark}
+use Rattle.records.specs.Records.{part}
 use Rattle.records.proofs.Writing.{length-recordBytes}
+use Rattle.records.proofs.WrittenRecords.{part-length, length-seeded}
 use Rattle.calls.specs.Calls.{keygenAnswer, newPublicKey, newSecretKey, keygenPublic, keygenSecret}
 use Rattle.calls.specs.Calls.{seededKeygenAnswer, newSeededKey, seededKeygenPublic, seededKeygenSecret}
 use Rattle.text.specs.Text.{written}
@@ -27,15 +24,9 @@ use Rattle.make_key_output.specs.MakeKey.{seeded?, makeKeyAnswer, public
 
 -- ---- lengths of the public key
 
-length-seededKeyBytes : (seed b : List ℕ) → length seed ≡ 32 → length (seededKeyBytes seed b) ≡ 2085
-unfolding seededKeyBytes
-length-seededKeyBytes seed b size =
-    let h = header seededKeyMark 1 in
-    omega (arith, length-append (h ++ seed) (elementBytes b), length-append h seed, length-header seededKeyMark 1, length-elementBytes b)
-
 pub seeded-length : (input : List ℕ) → length input ≡ 1056 → length (publicKey input) ≡ 2085
 unfolding publicKey newSeededKey
-seeded-length input size = rw size (length-seededKeyBytes (part 0 32 input) _ (length-take-le 32 input (omega arith)))
+seeded-length input size = rw size (length-seeded (part 0 32 input) _ (part-length 0 32 input (omega arith)))
 
 pub long-length : (input : List ℕ) → seeded? input ≡ false → length (publicKey input) ≡ 4101
 unfolding publicKey newPublicKey

@@ -87,7 +87,7 @@ module _ (seed b : List ℕ) (size : length seed ≡ seedLength) where
   before-b : length (header seededKeyMark 1 ++ seed) ≡ 37
   before-b = length-both (header seededKeyMark 1) seed (length-header seededKeyMark 1) size
 
-  length-seeded : length key ≡ seededKeyLength
+  pub length-seeded : length key ≡ seededKeyLength
   unfolding seededKeyBytes
   length-seeded = length-both (header seededKeyMark 1 ++ seed) (elementBytes b) before-b (length-elementBytes b)
 

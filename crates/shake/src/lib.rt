@@ -6,7 +6,7 @@ ghost use lib.ListN.{length};
 ghost use Rattle.lists.specs.Table.{table, zeros};
 ghost use Rattle.string_to_state.specs.Words.{word};
 ghost use Rattle.shake.specs.Sponge.{Rate, block, absorb, squeeze};
-ghost use Rattle.shake.specs.Shake.{padding, padded, shake128, shake256};
+ghost use Rattle.shake.specs.Shake.{padding, padded, shake, shake128, shake256};
 
 // The rates: 1,344 and 1,088 bits.
 const SHAKE128_RATE: usize = 168;
@@ -91,18 +91,23 @@ fn squeeze(rate: usize, s: [[u64; 5]; 5], out: &mut [u8])
     state_to_string::put_bytes(s, &mut out[at..]);
 }
 
-// SHAKE128: fills `out`, of any length, from a message of any length.
+// The SHAKE of a rate: fills `out`, of any length, from a message of any length.
+fn shake(rate: usize, input: &[u8], out: &mut [u8])
+    requires { ⌜ Rate rate ⌝ }
+    ensures { λ _. ⌜ now (out .exit) ≡ shake rate (now (input .entry)) (length (now (out .entry))) ⌝ }
+{
+    let s = absorb(rate, input);
+    squeeze(rate, s, out);
+}
+
 pub fn shake128(input: &[u8], out: &mut [u8])
     ensures { λ _. ⌜ now (out .exit) ≡ shake128 (now (input .entry)) (length (now (out .entry))) ⌝ }
 {
-    let s = absorb(SHAKE128_RATE, input);
-    squeeze(SHAKE128_RATE, s, out);
+    shake(SHAKE128_RATE, input, out);
 }
 
-// SHAKE256: the same with the other rate.
 pub fn shake256(input: &[u8], out: &mut [u8])
     ensures { λ _. ⌜ now (out .exit) ≡ shake256 (now (input .entry)) (length (now (out .entry))) ⌝ }
 {
-    let s = absorb(SHAKE256_RATE, input);
-    squeeze(SHAKE256_RATE, s, out);
+    shake(SHAKE256_RATE, input, out);
 }

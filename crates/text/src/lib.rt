@@ -6,15 +6,6 @@ ghost use lib.ListN.{length, take, drop};
 ghost use Rattle.lists.specs.Table.{zeros};
 ghost use Rattle.text.specs.Text.{written, decimal};
 
-fn copy(out: &mut [u8], s: &[u8])
-    requires { ⌜ length (now out) ≡ length (now s) ⌝ }
-    ensures { λ _. ⌜ now (out .exit) ≡ now (s .entry) ⌝ }
-{
-    for i in 0..s.len() {
-        out[i] = s[i];
-    }
-}
-
 // Writes a text at a place of a buffer, as far as there is room, and gives the place behind it.
 pub fn put(out: &mut [u8], at: usize, s: &[u8]) -> usize
     requires { ⌜ at ≤ length (now out) ⌝ }
@@ -23,7 +14,7 @@ pub fn put(out: &mut [u8], at: usize, s: &[u8]) -> usize
 {
     let n = octets::lesser(s.len(), out.len() - at);
     let end = at + n;
-    copy(&mut out[at..end], &s[0..n]);
+    octets::copy(&s[0..n], &mut out[at..end]);
     end
 }
 

@@ -1,27 +1,17 @@
-use mathlib.Core.Path.{ap, _∙_}
-use denote.Ref.{now}
-use lib.ListN.{length}
-use Rattle.keccak_steps.specs.Steps.{State}
-use Rattle.shake.specs.Sponge.{squeeze}
+use Rattle.shake.specs.Shake.{shake128}
 use borrow.Author.Needs.{needs}
-use Rattle.shake.specs.Shake.{shake, shake128}
 use Rattle.shake.proofs.shake128.Statement.{statement}
 use Rattle.shake.proofs.shake128.Tie as tie
 
-absorb-requires : tie.Need-absorb-requires
-absorb-requires c κs = search needs
-
-squeeze-requires : tie.Need-squeeze-requires
-squeeze-requires c κs = search needs
+shake-requires : tie.Need-shake-requires
+shake-requires c κs = search needs
 
 same-length : tie.Need-same-length
 same-length c = search needs
 
 returns : tie.Need-returns
-unfolding shake128 shake
-returns c =
-    let room = length (now (c .before .before .before .before .before .before .before .args .out)) in
-    c .before .before .squeeze .ensures ∙ ap (λ (s : State). squeeze 168 s room) (c .before .before .before .before .absorb .ensures)
+unfolding shake128
+returns c = c .before .before .shake .ensures
 
 pub shake128-spec : {M : Type 1} → statement M
-shake128-spec = tie.close (tie.spec absorb-requires squeeze-requires same-length returns)
+shake128-spec = tie.close (tie.spec shake-requires same-length returns)

@@ -9,10 +9,6 @@ use Rattle.text.proofs.Texts.{copied}
 use borrow.Author.Needs.{needs}
 use Rattle.text.proofs.put.Statement.{statement}
 use Rattle.text.proofs.put.Tie as tie
-use Rattle.text.proofs.put.Reads as reads
-use Rattle.text.proofs.put.Lts as lts
-use Rattle.text.proofs.copy.Reads as copy-reads
-use Rattle.octets.proofs.lesser.Reads as lesser-reads
 
 sub-lesser : tie.Need-sub-lesser
 sub-lesser c = search needs
@@ -49,9 +45,9 @@ copy-requires c κs =
     let at = args .at in
     let old = now (args .out) in
     let some : at + n - at ≡ n = omega arith in
-    let front : n ≡ n - 0 = omega arith in
-    ap (λ (k : ℕ). length (take k (drop at old))) some ∙ length-take-le n (drop at old) (omega (arith, e, length-drop at old))
-    ∙ sym (length-take-le n (now (args .s)) (omega (arith, e))) ∙ ap (λ (k : ℕ). length (take k (now (args .s)))) front
+    let front : n - 0 ≡ n = omega arith in
+    ap (λ (k : ℕ). length (take k (now (args .s)))) front ∙ length-take-le n (now (args .s)) (omega (arith, e))
+    ∙ sym (ap (λ (k : ℕ). length (take k (drop at old))) some ∙ length-take-le n (drop at old) (omega (arith, e, length-drop at old)))
 
 same-length : tie.Need-same-length
 same-length c = search needs
