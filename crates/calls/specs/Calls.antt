@@ -1,6 +1,6 @@
 -- What each public call answers and what its lent outputs hold afterwards, over the lent bytes (document 01, "Bytes" and "What the desk
--- says"; document 02, No. 2). Every definition holds for buffers of all lengths. Under any answer but Done an output is as it came. `room`, and `public` and
--- `secret` where they are numbers, are the lengths of outputs.
+-- says"; document 02, No. 2). Every definition holds for buffers of all lengths. Under any answer but Done an output is as it came.
+-- `room`, and `public` and `secret` where they are numbers, are the lengths of outputs.
 use mathlib.Core.Bool.{_&&_}
 use mathlib.Core.List.{List}
 use Prim.Native.Nat.{ℕ}
@@ -50,8 +50,8 @@ keygenPublic stream s e public secret = onDone (keygenAnswer stream s e (length 
 unfoldable pub keygenSecret : (stream s e public secret : List ℕ) → List ℕ
 keygenSecret stream s e public secret = onDone (keygenAnswer stream s e (length public) (length secret)) (newSecretKey stream s e) secret
 
--- ---- keygen from a seed (document 02, No. 2), and the noise of s and of e: as from the stream of the seed, which the public key holds in
--- place of a
+-- ---- keygen from a seed (document 02, No. 2), and the noise of s and of e: as from the seed's stream, but that the public key holds the
+-- seed in place of a
 
 unfoldable pub seededKeygenAnswer : (seed s e : List ℕ) (public secret : ℕ) → Answer
 seededKeygenAnswer seed s e public secret =

@@ -1,4 +1,5 @@
-// The calls that check a secret key and that make keys from a stream. Buffers may have any length; under any answer but Done every output is as it came.
+// The calls that check a secret key and that make keys from a stream. Buffers may have any length; under any answer but Done every
+// output is as it came.
 use answers::Answer;
 use answers::Refusal;
 use ntt::Element;

@@ -1,5 +1,6 @@
 // What a console and a desk link: each public call for C. A slice is a pointer and a length, buffers may have any length, and the answer is
-// document 01's number, or document 02's; under any number but 0 every output is as it came. The definitions that the contracts cite stand in crate calls.
+// document 01's number, or document 02's; under any number but 0 every output is as it came. The definitions that the contracts cite
+// stand in crate calls.
 ghost use mathlib.Core.Path.{_≡_};
 ghost use lib.ListN.{length};
 ghost use Rattle.shake.specs.Shake.{shake128, shake256};

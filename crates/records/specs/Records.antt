@@ -1,4 +1,5 @@
--- The records of document 01 ("Bytes") and of document 02, No. 2: their parts, what their checks answer and in which order, and what their writers write.
+-- The records of document 01 ("Bytes") and of document 02, No. 2: their parts, what their checks answer and in which order, and what
+-- their writers write.
 use mathlib.Core.List.{List, _++_}
 use Prim.Native.Nat.{ℕ}
 use lib.Dec.{eqb}

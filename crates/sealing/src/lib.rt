@@ -1,4 +1,5 @@
-// The calls of a console, which is lent a public key of either kind. Buffers may have any length; under any answer but Done every output is as it came.
+// The calls of a console, which is lent a public key of either kind. Buffers may have any length; under any answer but Done every output
+// is as it came.
 use answers::Answer;
 use answers::Refusal;
 use keys::TRIPLE_NOISE_LENGTH;
