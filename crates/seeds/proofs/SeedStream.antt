@@ -9,4 +9,4 @@ use Rattle.seeds.specs.Seeds.{seedStream}
 
 pub length-seedStream : (seed : List ℕ) → length (seedStream seed) ≡ streamLength
 unfolding seedStream
-length-seedStream seed = length-shake128 seed streamLength
+length-seedStream seed = length-shake128 _ streamLength
