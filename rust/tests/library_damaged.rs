@@ -1,16 +1,17 @@
-//! Every kind of damage to every call, compared with the reference and, where it is plain, with the number of documents 01 and 02.
+//! Every kind of damage to every call, compared with the reference and, where it is plain, with the code of documents 01 and 02.
 mod common;
 #[path = "common/library.rs"]
 mod library;
 
+use common::answers;
 use common::cases::{run, Case, Count, REFERENCE};
 use common::damage::{self, Damage, Sound};
 use common::random::Random;
 use library::LIBRARY;
 
-fn compare(count: &mut Count, case: &Case, number: Option<u32>) {
+fn compare(count: &mut Count, case: &Case, code: Option<u32>) {
     let expected = run(&REFERENCE, case);
-    assert!(number.map_or(true, |number| number == expected.number), "{}: the reference says {}", case.name, expected.number);
+    assert!(code.map_or(true, |code| code == expected.code), "{}: the reference says {}", case.name, answers::shown(expected.code));
     count.add(&case.name, &expected, &run(&LIBRARY, case));
 }
 
@@ -22,7 +23,7 @@ fn each_alone(what: &'static str, pick: fn(&Sound) -> &Case, seed: u64) {
         let case = pick(&sound);
         compare(&mut count, case, Some(0));
         for damage in damage::of(case, &mut random) {
-            compare(&mut count, &damage.apply(case), damage.number);
+            compare(&mut count, &damage.apply(case), damage.code);
         }
     }
     count.finish();

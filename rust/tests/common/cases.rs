@@ -1,5 +1,7 @@
 //! A case is a call with its inputs and the lengths of its outputs. It runs on the reference, on the library, or on both side by side.
-use super::reference;
+use std::collections::BTreeMap;
+
+use super::{answers, reference};
 
 #[derive(Clone, Copy, PartialEq, Eq, Debug)]
 pub enum Call {
@@ -27,7 +29,7 @@ type TwoIn = fn(&[u8], &[u8], &mut [u8]) -> u32;
 type ThreeIn = fn(&[u8], &[u8], &[u8], &mut [u8]) -> u32;
 type ThreeInTwoOut = fn(&[u8], &[u8], &[u8], &mut [u8], &mut [u8]) -> u32;
 
-/// The calls on bytes, by whoever supplies them.
+/// The calls on bytes, by whoever supplies them. They answer codes.
 pub struct Calls {
     pub keygen: ThreeInTwoOut,
     pub keygen_from_seed: ThreeInTwoOut,
@@ -52,10 +54,10 @@ pub const REFERENCE: Calls = Calls {
     shake256: reference::shake256,
 };
 
-/// The number, and every output buffer afterwards.
+/// The code, and every output buffer afterwards.
 #[derive(Clone, PartialEq, Eq, Debug)]
 pub struct Outcome {
-    pub number: u32,
+    pub code: u32,
     pub outputs: Vec<Vec<u8>>,
 }
 
@@ -67,11 +69,11 @@ fn pattern(length: usize) -> Vec<u8> {
     (0..length).map(|i| (i * 37 + 11) as u8).collect()
 }
 
-/// Runs a case; fails where a byte beside an output changes, or a byte of an output under a number other than 0.
+/// Runs a case; fails where a byte beside an output changes, or a byte of an output under a code other than 0.
 pub fn run(calls: &Calls, case: &Case) -> Outcome {
     let before: Vec<Vec<u8>> = case.outputs.iter().map(|length| pattern(length + 2 * MARGIN)).collect();
     let mut after = before.clone();
-    let number = {
+    let code = {
         let input = |i: usize| &case.inputs[i][..];
         let mut lent: Vec<&mut [u8]> =
             after.iter_mut().zip(&case.outputs).map(|(buffer, length)| &mut buffer[MARGIN..MARGIN + length]).collect();
@@ -98,32 +100,32 @@ pub fn run(calls: &Calls, case: &Case) -> Outcome {
     for ((before, after), length) in before.iter().zip(&after).zip(&case.outputs) {
         let beside = |buffer: &[u8]| [&buffer[..MARGIN], &buffer[MARGIN + length..]].concat();
         assert!(beside(before) == beside(after), "{}: written outside the buffer", case.name);
-        assert!(number == 0 || before == after, "{}: refused under {number}, and an output has changed", case.name);
+        assert!(code == 0 || before == after, "{}: refused under {}, and an output has changed", case.name, answers::shown(code));
     }
     let outputs = after.iter().zip(&case.outputs).map(|(buffer, length)| buffer[MARGIN..MARGIN + length].to_vec()).collect();
-    Outcome { number, outputs }
+    Outcome { code, outputs }
 }
 
 /// Counts agreements, and remembers by name what did not agree.
 pub struct Count {
     what: &'static str,
     cases: usize,
-    numbers: [usize; 11],
+    numbers: BTreeMap<u32, usize>,
     mismatches: Vec<String>,
 }
 
 impl Count {
     pub fn new(what: &'static str) -> Count {
-        Count { what, cases: 0, numbers: [0; 11], mismatches: vec![] }
+        Count { what, cases: 0, numbers: BTreeMap::new(), mismatches: vec![] }
     }
 
     pub fn add(&mut self, name: &str, expected: &Outcome, actual: &Outcome) {
         self.cases += 1;
-        self.numbers[expected.number.min(10) as usize] += 1;
-        if expected.number != actual.number {
-            self.mismatches.push(format!("{name}: number {}, expected {}", actual.number, expected.number));
+        *self.numbers.entry(answers::number(expected.code)).or_default() += 1;
+        if expected.code != actual.code {
+            self.mismatches.push(format!("{name}: answers {}, expected {}", answers::shown(actual.code), answers::shown(expected.code)));
         } else if expected.outputs != actual.outputs {
-            self.mismatches.push(format!("{name}: number {}, other bytes", actual.number));
+            self.mismatches.push(format!("{name}: answers {}, other bytes", answers::shown(actual.code)));
         }
     }
 
@@ -136,8 +138,7 @@ impl Count {
 
     /// Prints the count, and fails on any mismatch.
     pub fn finish(self) {
-        let seen: Vec<String> =
-            (0..).zip(self.numbers).filter(|(_, count)| *count > 0).map(|(number, count)| format!("{number}: {count}")).collect();
+        let seen: Vec<String> = self.numbers.iter().map(|(number, count)| format!("{number}: {count}")).collect();
         let seen = if seen.is_empty() { String::new() } else { format!(" (numbers {})", seen.join(", ")) };
         println!("{}: {} cases, {} mismatches{seen}", self.what, self.cases, self.mismatches.len());
         for mismatch in self.mismatches.iter().take(20) {

@@ -1,4 +1,5 @@
-//! Sound cases of every call, and each kind of damage to them, with the number that documents 01 and 02 give where it is plain.
+//! Sound cases of every call, and each kind of damage to them, with the code that documents 01 and 02 give where it is plain.
+use super::answers;
 use super::cases::{run, Call, Case, REFERENCE};
 use super::random::Random;
 use super::reference::{self, N, Q};
@@ -23,7 +24,7 @@ fn case(name: &str, call: Call, inputs: Vec<Vec<u8>>, outputs: &[usize]) -> Case
 /// What the reference writes; none where it refuses.
 fn written(case: &Case) -> Option<Vec<Vec<u8>>> {
     let outcome = run(&REFERENCE, case);
-    (outcome.number == 0).then_some(outcome.outputs)
+    (outcome.code == 0).then_some(outcome.outputs)
 }
 
 impl Sound {
@@ -78,14 +79,14 @@ type Edit = Box<dyn Fn(&mut Case)>;
 
 pub struct Damage {
     pub name: String,
-    /// The number when this is the only damage, where it hangs on nothing else.
-    pub number: Option<u32>,
+    /// The code when this is the only damage, where it hangs on nothing else.
+    pub code: Option<u32>,
     edit: Edit,
 }
 
 impl Damage {
-    fn new(name: String, number: Option<u32>, edit: impl Fn(&mut Case) + 'static) -> Damage {
-        Damage { name, number, edit: Box::new(edit) }
+    fn new(name: String, code: Option<u32>, edit: impl Fn(&mut Case) + 'static) -> Damage {
+        Damage { name, code, edit: Box::new(edit) }
     }
 
     pub fn apply(&self, case: &Case) -> Case {
@@ -162,7 +163,7 @@ fn noise_of_value(value: u32, exponent: usize) -> Vec<u8> {
 /// Every buffer too short, too long and empty.
 pub fn lengths(case: &Case) -> Vec<Damage> {
     let mut all = vec![];
-    let mut add = |name: String, edit: Edit| all.push(Damage { name, number: Some(1), edit });
+    let mut add = |name: String, edit: Edit| all.push(Damage { name, code: Some(1), edit });
     for (i, length) in case.inputs.iter().map(Vec::len).enumerate() {
         for other in [length - 1, length + 1, 0, 1, 2 * length] {
             add(format!("input {i} of length {other}"), Box::new(move |case| case.inputs[i].resize(other, 0)));
@@ -220,13 +221,13 @@ pub fn other_records(case: &Case) -> Vec<Damage> {
 }
 
 /// Other seeds, which stand in input 0.
-pub fn seeds(start: usize, number: Option<u32>) -> Vec<Damage> {
+pub fn seeds(start: usize, code: Option<u32>) -> Vec<Damage> {
     let mut all = vec![];
     for fill in [0x00, 0x01, 0xff] {
-        all.push(Damage::new(format!("seed all {fill:#04x}"), number, move |case| put(&mut case.inputs[0], start, &[fill; 32])));
+        all.push(Damage::new(format!("seed all {fill:#04x}"), code, move |case| put(&mut case.inputs[0], start, &[fill; 32])));
     }
     for bit in [0, 7, 8, 128, 255] {
-        all.push(Damage::new(format!("seed bit {bit}"), number, move |case| {
+        all.push(Damage::new(format!("seed bit {bit}"), code, move |case| {
             if let Some(byte) = case.inputs[0].get_mut(start + bit / 8) {
                 *byte ^= 1 << (bit % 8);
             }
@@ -235,15 +236,58 @@ pub fn seeds(start: usize, number: Option<u32>) -> Vec<Damage> {
     all
 }
 
+/// A part of a record that is 1,024 words.
+#[derive(Clone, Copy)]
+pub struct Words {
+    input: usize,
+    number: u32,
+    record: &'static str,
+    part: &'static str,
+    start: usize,
+}
+
+impl Words {
+    /// The answer where its first bad word, and the first of the case, stands at this index.
+    pub fn code(self, index: usize) -> u32 {
+        answers::located(self.number, self.record, self.part, index)
+    }
+
+    pub fn put(self, case: &mut Case, index: usize, value: u32) {
+        put_word(&mut case.inputs[self.input], self.start + 2 * index, value);
+    }
+
+    pub fn name(self, index: usize, value: u32) -> String {
+        format!("{} {}[{index}] is {value}", self.record, self.part)
+    }
+}
+
+/// All words that a sound case is lent in records, in the order in which they are judged.
+pub fn words_of(case: &Case) -> Vec<Words> {
+    let pair = |input, number, record, [first, second]: [&'static str; 2], start| {
+        [(first, start), (second, start + 2 * N)].map(|(part, start)| Words { input, number, record, part, start }).to_vec()
+    };
+    let secret_key = pair(0, 4, "secret_key", ["a", "b"], 5);
+    match case.call {
+        Call::Encapsulate | Call::Seal if is_seeded(case) => {
+            vec![Words { input: 0, number: 4, record: "seeded_public_key", part: "b", start: 37 }]
+        }
+        Call::Encapsulate | Call::Seal => pair(0, 4, "public_key", ["a", "b"], 5),
+        Call::CheckSecretKey => secret_key,
+        Call::Decapsulate => [secret_key, pair(1, 11, "encapsulation", ["c1", "c2"], 0)].concat(),
+        Call::Open => [secret_key, pair(1, 11, "sealed_entry", ["c1", "c2"], 5)].concat(),
+        Call::Keygen | Call::KeygenFromSeed | Call::Shake128 | Call::Shake256 => vec![],
+    }
+}
+
 /// Words at q and above, at first, last and middle places of each element; and the largest word that is allowed.
-pub fn words(input: usize, start: usize, count: usize) -> Vec<Damage> {
+pub fn words(case: &Case) -> Vec<Damage> {
     let mut all = vec![];
-    let places = [0, 1, 511, 512, 1022, 1023, 1024, 1025, 1536, 2046, 2047];
-    for place in places.into_iter().filter(|&place| place < count) {
-        for (value, number) in [(59_392, None), (59_393, Some(4)), (59_394, Some(4)), (65_535, Some(4))] {
-            all.push(Damage::new(format!("input {input}, word {place} is {value}"), number, move |case| {
-                put_word(&mut case.inputs[input], start + 2 * place, value);
-            }));
+    for part in words_of(case) {
+        for index in [0, 1, 511, 512, 1022, 1023] {
+            for value in [59_392, 59_393, 59_394, 65_535] {
+                let code = (value >= Q).then(|| part.code(index));
+                all.push(Damage::new(part.name(index, value), code, move |case| part.put(case, index, value)));
+            }
         }
     }
     all
@@ -383,8 +427,8 @@ pub fn streams(random: &mut Random) -> Vec<Damage> {
                 .map(|refuse| if refuse { *random.pick(&[59_393, 59_394, 65_535]) } else { random.below(Q as usize) as u16 })
                 .collect();
             let bytes: Vec<u8> = words.iter().flat_map(|word| word.to_le_bytes()).collect();
-            let number = if refused > 320 { Some(8) } else { None };
-            all.push(Damage::new(format!("stream with {refused} words passed over, kind {kind}"), number, move |case| {
+            let code = if refused > 320 { Some(8) } else { None };
+            all.push(Damage::new(format!("stream with {refused} words passed over, kind {kind}"), code, move |case| {
                 case.inputs[0].clone_from(&bytes);
             }));
         }
@@ -419,6 +463,7 @@ fn is_seeded(case: &Case) -> bool {
 /// All kinds that fit a sound case.
 pub fn of(case: &Case, random: &mut Random) -> Vec<Damage> {
     let mut all = lengths(case);
+    all.extend(words(case));
     match case.call {
         Call::Keygen => all.extend(streams(random)),
         Call::KeygenFromSeed => {
@@ -427,7 +472,6 @@ pub fn of(case: &Case, random: &mut Random) -> Vec<Damage> {
         }
         Call::CheckSecretKey | Call::Decapsulate | Call::Open => {
             all.extend(headers(case, 0));
-            all.extend(words(0, 5, 2 * N));
             all.extend(codes(0, 4101, 1024));
             all.extend(no_units(2053));
             all.extend(parted_keys());
@@ -438,10 +482,8 @@ pub fn of(case: &Case, random: &mut Random) -> Vec<Damage> {
             if is_seeded(case) {
                 // b is a unit whatever a is
                 all.extend(seeds(5, Some(0)));
-                all.extend(words(0, 37, N));
                 all.extend(no_units(37));
             } else {
-                all.extend(words(0, 5, 2 * N));
                 all.extend(no_units(2053));
             }
         }
@@ -453,7 +495,6 @@ pub fn of(case: &Case, random: &mut Random) -> Vec<Damage> {
             all.extend(dummies(1, true));
         }
         Call::Decapsulate => {
-            all.extend(words(1, 0, 2 * N));
             all.extend(moved_capsules(0));
             all.extend(codes(2, 0, 3072));
             all.extend(dummies(2, true));
@@ -461,7 +502,6 @@ pub fn of(case: &Case, random: &mut Random) -> Vec<Damage> {
         Call::Seal => all.extend(dummies(1, false)),
         Call::Open => {
             all.extend(headers(case, 1));
-            all.extend(words(1, 5, 2 * N));
             all.extend(moved_capsules(5));
             all.extend(body_and_tag());
             all.extend(dummies(2, false));

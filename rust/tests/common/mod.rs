@@ -1,6 +1,7 @@
 //! What the test files share. Each uses a part of it.
 #![allow(dead_code)]
 
+pub mod answers;
 pub mod cases;
 pub mod damage;
 pub mod random;

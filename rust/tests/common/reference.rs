@@ -1,5 +1,7 @@
 //! Documents 01 and 02 written out a second time, as plainly as they read: sums over pairs of coefficients, Euclid's algorithm on
-//! polynomials, Keccak lane by lane, the tag's field bit by bit. It knows no transform and shares no code with the library.
+//! polynomials, Keccak lane by lane, the tag's field bit by bit. It knows no transform and shares no code with the library. A refusal is
+//! its code: the number, under 4 and 11 with the first bad word.
+use super::answers;
 
 pub const N: usize = 1024;
 pub const Q: u32 = 59_393;
@@ -267,10 +269,10 @@ fn put_words(f: &[u32], bytes: &mut Vec<u8>) {
     }
 }
 
-/// Refused under 4 where a word is q or more.
-fn elements(bytes: &[u8]) -> Result<Vec<Element>, u32> {
-    if words(bytes).any(|word| word >= Q) {
-        return Err(4);
+/// The parts of a record that are elements. Refused under `number` at the first word that is q or more.
+fn elements(number: u32, record: &str, parts: &[&str], bytes: &[u8]) -> Result<Vec<Element>, u32> {
+    if let Some(place) = words(bytes).position(|word| word >= Q) {
+        return Err(answers::located(number, record, parts[place / N], place % N));
     }
     Ok(bytes.chunks(2 * N).map(|part| words(part).collect()).collect())
 }
@@ -373,11 +375,11 @@ fn public_key_length(public_key: &[u8]) -> usize {
 fn judge_public_key(record: &[u8]) -> Result<PublicKey, u32> {
     let (a, b) = if record.len() == 2085 {
         judge_header(b"PDS", record)?;
-        let b = elements(&record[37..])?.pop().unwrap();
+        let b = elements(4, "seeded_public_key", &["b"], &record[37..])?.pop().unwrap();
         (seeded(&record[5..37])?, b)
     } else {
         judge_header(b"PDK", record)?;
-        let mut parts = elements(&record[5..])?;
+        let mut parts = elements(4, "public_key", &["a", "b"], &record[5..])?;
         let b = parts.pop().unwrap();
         (parts.pop().unwrap(), b)
     };
@@ -387,7 +389,7 @@ fn judge_public_key(record: &[u8]) -> Result<PublicKey, u32> {
 
 fn judge_secret_key(record: &[u8]) -> Result<SecretKey, u32> {
     judge_header(b"SDK", record)?;
-    let mut parts = elements(&record[5..4101])?;
+    let mut parts = elements(4, "secret_key", &["a", "b"], &record[5..4101])?;
     let b = parts.pop().unwrap();
     let a = parts.pop().unwrap();
     let s = coded(&record[4101..])?.pop().unwrap();
@@ -472,9 +474,9 @@ fn tag(k1: [u8; 16], k2: [u8; 16], body: [u8; 16]) -> [u8; 16] {
     xor(field_product(k1, body), k2)
 }
 
-// ---- the calls: document 01's number, and outputs written under 0 alone
+// ---- the calls: the code, and outputs written under 0 alone
 
-fn number(answer: Result<(), u32>) -> u32 {
+fn code(answer: Result<(), u32>) -> u32 {
     answer.err().unwrap_or(0)
 }
 
@@ -491,7 +493,7 @@ pub fn keygen(stream: &[u8], noise_s: &[u8], noise_e: &[u8], public_key: &mut [u
         secret_key.copy_from_slice(&secret_key_bytes(&a, &b, &s));
         Ok(())
     };
-    number(work())
+    code(work())
 }
 
 pub fn keygen_from_seed(seed: &[u8], noise_s: &[u8], noise_e: &[u8], public_key: &mut [u8], secret_key: &mut [u8]) -> u32 {
@@ -507,7 +509,7 @@ pub fn keygen_from_seed(seed: &[u8], noise_s: &[u8], noise_e: &[u8], public_key:
         secret_key.copy_from_slice(&secret_key_bytes(&a, &b, &s));
         Ok(())
     };
-    number(work())
+    code(work())
 }
 
 pub fn check_secret_key(secret_key: &[u8]) -> u32 {
@@ -516,7 +518,7 @@ pub fn check_secret_key(secret_key: &[u8]) -> u32 {
         judge_secret_key(secret_key)?;
         Ok(())
     };
-    number(work())
+    code(work())
 }
 
 pub fn encapsulate(public_key: &[u8], triple: &[u8], encapsulation: &mut [u8]) -> u32 {
@@ -531,20 +533,20 @@ pub fn encapsulate(public_key: &[u8], triple: &[u8], encapsulation: &mut [u8]) -
         encapsulation.copy_from_slice(&bytes);
         Ok(())
     };
-    number(work())
+    code(work())
 }
 
 pub fn decapsulate(secret_key: &[u8], encapsulation: &[u8], dummy: &[u8], triple: &mut [u8]) -> u32 {
     let mut work = || {
         judge_lengths(&[(secret_key.len(), 4357), (encapsulation.len(), 4096), (dummy.len(), 768), (triple.len(), 768)])?;
         let key = judge_secret_key(secret_key)?;
-        let capsule = elements(encapsulation)?;
+        let capsule = elements(11, "encapsulation", &["c1", "c2"], encapsulation)?;
         let dummy = three(coded(dummy)?);
         let answer = opened(&key, &capsule[0], &capsule[1], &dummy)?;
         triple.copy_from_slice(&triple_bytes(&answer));
         Ok(())
     };
-    number(work())
+    code(work())
 }
 
 pub fn seal(public_key: &[u8], noise: &[u8], entry: &[u8], sealed: &mut [u8]) -> u32 {
@@ -563,7 +565,7 @@ pub fn seal(public_key: &[u8], noise: &[u8], entry: &[u8], sealed: &mut [u8]) ->
         sealed.copy_from_slice(&record);
         Ok(())
     };
-    number(work())
+    code(work())
 }
 
 pub fn open(secret_key: &[u8], sealed: &[u8], dummy_noise: &[u8], entry: &mut [u8]) -> u32 {
@@ -571,7 +573,7 @@ pub fn open(secret_key: &[u8], sealed: &[u8], dummy_noise: &[u8], entry: &mut [u
         judge_lengths(&[(secret_key.len(), 4357), (sealed.len(), 4133), (dummy_noise.len(), 1536), (entry.len(), 16)])?;
         let key = judge_secret_key(secret_key)?;
         judge_header(b"PLG", sealed)?;
-        let capsule = elements(&sealed[5..4101])?;
+        let capsule = elements(11, "sealed_entry", &["c1", "c2"], &sealed[5..4101])?;
         let triple = opened(&key, &capsule[0], &capsule[1], &triple_from_noise(dummy_noise))?;
         let (pad, k1, k2) = derived(&triple);
         let body: [u8; 16] = sealed[4101..4117].try_into().unwrap();
@@ -581,5 +583,5 @@ pub fn open(secret_key: &[u8], sealed: &[u8], dummy_noise: &[u8], entry: &mut [u
         entry.copy_from_slice(&xor(body, pad));
         Ok(())
     };
-    number(work())
+    code(work())
 }

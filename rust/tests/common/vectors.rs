@@ -1,7 +1,8 @@
 //! The vectors by other hands: files NAME.bin, with the names of their cases in NAME.txt where that is there too.
-//! A field is a 32-bit little-endian length and that many bytes; a case is its inputs, the number, an empty field, and the outputs.
+//! A field is a 32-bit little-endian length and that many bytes; a case is its inputs, the number, the location in words, and the outputs.
 use std::path::{Path, PathBuf};
 
+use super::answers;
 use super::cases::{run, Call, Calls, Case, Count, Outcome};
 
 /// Where the file stands: in the folder POLKA_VECTORS or, where that has none of the name, with the program of the gate that works
@@ -24,6 +25,8 @@ pub struct Vector {
     pub name: String,
     pub inputs: Vec<Vec<u8>>,
     pub number: u32,
+    /// RECORD PART INDEX where a word is off the ring, else empty.
+    pub location: String,
     pub outputs: Vec<Vec<u8>>,
 }
 
@@ -46,11 +49,12 @@ pub fn read(file: &str, inputs: usize, outputs: usize) -> Vec<Vector> {
         let mut all = vec![first];
         all.resize_with(inputs, &mut next);
         let answer = number(&next());
-        assert!(next().is_empty(), "{file}: no empty field after the number");
+        let location = String::from_utf8(next()).expect("a location in words");
+        assert!(location.is_empty() || [4, 11].contains(&answer), "{file}: a location under {answer}");
         let mut results = vec![];
         results.resize_with(outputs, &mut next);
         let name = names.get(vectors.len()).map_or_else(|| format!("case {}", vectors.len() + 1), String::clone);
-        vectors.push(Vector { name: format!("{file}: {name}"), inputs: all, number: answer, outputs: results });
+        vectors.push(Vector { name: format!("{file}: {name}"), inputs: all, number: answer, location, outputs: results });
     }
     assert!(!vectors.is_empty(), "{file}: no cases");
     assert!(names.is_empty() || names.len() == vectors.len(), "{file}: .txt and .bin differ in the count of cases");
@@ -71,7 +75,7 @@ fn compare(calls: &Calls, what: &'static str, file: &str, call: Call, inputs: us
         let actual = run(calls, &case);
         // `run` has seen to it that a refusal leaves the outputs as they were.
         let outputs = if vector.number == 0 { vector.outputs } else { actual.outputs.clone() };
-        count.add(&case.name, &Outcome { number: vector.number, outputs }, &actual);
+        count.add(&case.name, &Outcome { code: answers::code(vector.number, &vector.location), outputs }, &actual);
     }
     count.finish();
 }
@@ -117,13 +121,14 @@ pub fn compare_shake256(calls: &Calls) {
     compare(calls, "vectors, shake256", "shake256", Call::Shake256, 1, 1);
 }
 
-/// The desk program's line for its standard input.
+/// The desk program's line for its standard input: of the answer it has the number alone.
 pub fn desk_line(calls: &Calls, input: &[u8]) -> (u32, String) {
     if input.len() != 10_026 {
         return (1, "1 -\n".into());
     }
     let inputs = vec![input[..4357].to_vec(), input[4357..8490].to_vec(), input[8490..].to_vec()];
-    let Outcome { number, outputs } = run(calls, &Case { name: "desk".into(), call: Call::Open, inputs, outputs: vec![16] });
+    let Outcome { code, outputs } = run(calls, &Case { name: "desk".into(), call: Call::Open, inputs, outputs: vec![16] });
+    let number = answers::number(code);
     if number != 0 {
         return (number, format!("{number} -\n"));
     }
@@ -131,14 +136,15 @@ pub fn desk_line(calls: &Calls, input: &[u8]) -> (u32, String) {
     (0, format!("0 {digits}\n"))
 }
 
-/// The desk's inputs, opened by the call: number and line.
+/// The desk's inputs, opened by the call: number and line. There is no location.
 pub fn compare_desk(calls: &Calls) {
     let mut count = Count::new("vectors, desk");
     for vector in read("desk", 1, 1) {
         let (number, line) = desk_line(calls, &vector.inputs[0]);
         // the files have the line with or without its line feed
         let same = |bytes: &[u8]| bytes == line.as_bytes() || bytes == line.trim_end().as_bytes();
-        count.agree(&vector.name, number == vector.number && (vector.outputs[0].is_empty() || same(&vector.outputs[0])));
+        let answer = number == vector.number && vector.location.is_empty();
+        count.agree(&vector.name, answer && (vector.outputs[0].is_empty() || same(&vector.outputs[0])));
     }
     count.finish();
 }

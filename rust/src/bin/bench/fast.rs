@@ -442,6 +442,28 @@ fn judge_header(record: &[u8], mark: &[u8; 3]) -> Result<(), u32> {
     }
 }
 
+// The codes of include/polka.h: a record with its number, a part; the index stands above them.
+const PUBLIC_KEY: u32 = 1 << 12 | 4;
+const SEEDED_PUBLIC_KEY: u32 = 2 << 12 | 4;
+const SECRET_KEY: u32 = 3 << 12 | 4;
+const SEALED_ENTRY: u32 = 4 << 12 | 11;
+const ENCAPSULATION: u32 = 5 << 12 | 11;
+const A: u32 = 1 << 8;
+const B: u32 = 2 << 8;
+const C1: u32 = 4 << 8;
+const C2: u32 = 5 << 8;
+
+/// Refused at the first word that is q or more, which is looked for only where there is one.
+fn judge_words(record: u32, parts: &[(u32, &Element)]) -> Result<(), u32> {
+    for &(part, element) in parts {
+        if !in_range(element) {
+            let index = element.iter().position(|&word| word >= Q).unwrap_or_default();
+            return Err(record | part | (index as u32) << 16);
+        }
+    }
+    Ok(())
+}
+
 fn put_header(record: &mut [u8], mark: &[u8; 3]) {
     record[..3].copy_from_slice(mark);
     record[3..5].copy_from_slice(&[1, 0]);
@@ -463,16 +485,12 @@ fn judge_public_key(record: &[u8], w: &Factors) -> Result<PublicKey, u32> {
     let (a, b) = if record.len() == 2085 {
         judge_header(record, b"PDS")?;
         let b = words(&record[37..]);
-        if !in_range(&b) {
-            return Err(4);
-        }
+        judge_words(SEEDED_PUBLIC_KEY, &[(B, &b)])?;
         (seeded(&record[5..37]).ok_or(8u32)?, b)
     } else {
         judge_header(record, b"PDK")?;
         let (a, b) = (words(&record[5..2053]), words(&record[2053..]));
-        if !(in_range(&a) & in_range(&b)) {
-            return Err(4);
-        }
+        judge_words(PUBLIC_KEY, &[(A, &a), (B, &b)])?;
         (a, b)
     };
     let b = forward(&b, w);
@@ -492,9 +510,7 @@ struct SecretKey {
 fn judge_secret_key(record: &[u8], w: &Factors, v: &Factors) -> Result<SecretKey, u32> {
     judge_header(record, b"SDK")?;
     let (a, b) = (words(&record[5..2053]), words(&record[2053..4101]));
-    if !(in_range(&a) & in_range(&b)) {
-        return Err(4);
-    }
+    judge_words(SECRET_KEY, &[(A, &a), (B, &b)])?;
     if !codes_valid(&record[4101..]) {
         return Err(5);
     }
@@ -627,7 +643,7 @@ pub fn encapsulate(public_key: &[u8], triple: &[u8], encapsulation: &mut [u8]) -
     let (w, v) = (forward_factors(), backward_factors());
     let key = match judge_public_key(public_key, &w) {
         Ok(key) => key,
-        Err(number) => return number,
+        Err(code) => return code,
     };
     if !codes_valid(triple) {
         return 5;
@@ -646,11 +662,11 @@ pub fn decapsulate(secret_key: &[u8], encapsulation: &[u8], dummy: &[u8], triple
     let (w, v) = (forward_factors(), backward_factors());
     let key = match judge_secret_key(secret_key, &w, &v) {
         Ok(key) => key,
-        Err(number) => return number,
+        Err(code) => return code,
     };
     let (c1, c2) = (words(&encapsulation[..2048]), words(&encapsulation[2048..]));
-    if !(in_range(&c1) & in_range(&c2)) {
-        return 4;
+    if let Err(code) = judge_words(ENCAPSULATION, &[(C1, &c1), (C2, &c2)]) {
+        return code;
     }
     if !codes_valid(dummy) {
         return 5;
@@ -672,7 +688,7 @@ pub fn seal(public_key: &[u8], noise: &[u8], entry: &[u8], sealed: &mut [u8]) ->
     let (w, v) = (forward_factors(), backward_factors());
     let key = match judge_public_key(public_key, &w) {
         Ok(key) => key,
-        Err(number) => return number,
+        Err(code) => return code,
     };
     let triple = triple_from_noise(noise);
     let [c1, c2] = capsule(&key.a, &key.b, &triple, &w, &v);
@@ -693,14 +709,14 @@ pub fn open(secret_key: &[u8], sealed: &[u8], dummy_noise: &[u8], entry: &mut [u
     let (w, v) = (forward_factors(), backward_factors());
     let key = match judge_secret_key(secret_key, &w, &v) {
         Ok(key) => key,
-        Err(number) => return number,
+        Err(code) => return code,
     };
-    if let Err(number) = judge_header(sealed, b"PLG") {
-        return number;
+    if let Err(code) = judge_header(sealed, b"PLG") {
+        return code;
     }
     let (c1, c2) = (words(&sealed[5..2053]), words(&sealed[2053..4101]));
-    if !(in_range(&c1) & in_range(&c2)) {
-        return 4;
+    if let Err(code) = judge_words(SEALED_ENTRY, &[(C1, &c1), (C2, &c2)]) {
+        return code;
     }
     let Some(triple) = opened(&key, &c1, &c2, &triple_from_noise(dummy_noise), &w, &v) else { return 9 };
     let keys = derived(&encode_triple(&triple));
