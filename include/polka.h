@@ -7,7 +7,11 @@
  * - A buffer is a pointer and its length in bytes. The pointer is not null, also where the length is 0.
  * - Every call looks at all lengths first, and refuses another length than named here.
  * - An output may overlap no other buffer of the call, input or output. Inputs may overlap each other.
- * - The answer is one of enum polka_answer. Under any answer but POLKA_DONE every output byte is as it was before the call.
+ * - The answer is a code: POLKA_DONE, which is 0, exactly when the call is done, and else a refusal. polka_number gives its number, one of
+ *   enum polka_answer. Under POLKA_KEY_OUT_OF_RANGE and POLKA_ENCAPSULATION_OUT_OF_RANGE the code also tells where the first bad word
+ *   stands (polka_record, polka_part, polka_index); every other code is its number. Later versions may add numbers, records and parts.
+ * - The numbers that a call can answer stand with it, in the order of its checks.
+ * - Under any answer but POLKA_DONE every output byte is as it was before the call.
  * - Under POLKA_DONE every byte of every output is written.
  * - The library keeps no state: calls may run at the same time on several threads.
  * - It draws no random bytes: streams, seeds and noise come from the caller. They must be uniform and new for every call, and noise is
@@ -29,11 +33,14 @@
  * 0.2: four bits of noise, t0 the lowest, give t0 - t1 + t2 - t3, where 2 becomes -1 and -2 becomes 1. It was t0 + t1 - t2 - t3. So the same
  * bytes make another key and another sealed entry; what was made before still opens.
  * 0.3: adds polka_shake128, polka_keygen_from_seed and the seeded public key, which polka_seal and polka_encapsulate take too. A key of its
- * length was POLKA_WRONG_LENGTH before. */
+ * length was POLKA_WRONG_LENGTH before.
+ * 0.4: the answer is a code, and tells where a bad word stands. 4, POLKA_COEFFICIENT_OUT_OF_RANGE before, is POLKA_KEY_OUT_OF_RANGE and of
+ * keys alone; encapsulations and sealed entries have POLKA_ENCAPSULATION_OUT_OF_RANGE, 11. Who compared the answer with 4, or used it as
+ * a number, must use polka_number(answer). Comparisons with other numbers hold as they are. */
 #define POLKA_VERSION_MAJOR 0
-#define POLKA_VERSION_MINOR 3
+#define POLKA_VERSION_MINOR 4
 #define POLKA_VERSION_PATCH 0
-#define POLKA_VERSION "0.3.0"
+#define POLKA_VERSION "0.4.0"
 
 /* The compiler warns where an answer is not looked at. */
 #if (defined(__cplusplus) && __cplusplus >= 201703L) || (defined(__STDC_VERSION__) && __STDC_VERSION__ >= 202311L)
@@ -73,20 +80,58 @@ extern "C" {
 #define POLKA_SHAKE128_STACK (2 * 1024)
 #define POLKA_SHAKE256_STACK (2 * 1024)
 
-/* What the calls answer, with document 01's word. */
+/* The numbers of the answers, with document 01's word. 11 is of document 02, which has no word of its own for it. */
 enum polka_answer {
     POLKA_DONE = 0,
-    POLKA_WRONG_LENGTH = 1,             /* misfit: a buffer, input or output, hasn't its exact length */
-    POLKA_WRONG_MARK = 2,               /* stranger: the mark is another */
-    POLKA_WRONG_VERSION = 3,            /* other issue: the version is not 1 */
-    POLKA_COEFFICIENT_OUT_OF_RANGE = 4, /* off the ring: a word is 59,393 or more */
-    POLKA_INVALID_CODE = 5,             /* bad code: a two-bit code is 3 */
-    POLKA_NOT_INVERTIBLE = 6,           /* no unit: b has no inverse */
-    POLKA_KEY_MISMATCH = 7,             /* parted key: b / 5 - a s is not ternary (short) */
-    POLKA_STREAM_EXHAUSTED = 8,         /* dry stream: under 1,024 words of the stream are below 59,393 */
-    POLKA_DECAPSULATION_FAILURE = 9,    /* no triple: a step of the opening fails */
-    POLKA_TAG_MISMATCH = 10             /* bad tag: the tag is not that of the body */
+    POLKA_WRONG_LENGTH = 1,               /* misfit: a buffer, input or output, hasn't its exact length */
+    POLKA_WRONG_MARK = 2,                 /* stranger: the mark is another */
+    POLKA_WRONG_VERSION = 3,              /* other issue: the version is not 1 */
+    POLKA_KEY_OUT_OF_RANGE = 4,           /* off the ring: a word of a key is 59,393 or more */
+    POLKA_INVALID_CODE = 5,               /* bad code: a two-bit code is 3 */
+    POLKA_NOT_INVERTIBLE = 6,             /* no unit: b has no inverse */
+    POLKA_KEY_MISMATCH = 7,               /* parted key: b / 5 - a s is not ternary (short) */
+    POLKA_STREAM_EXHAUSTED = 8,           /* dry stream: under 1,024 words of the stream are below 59,393 */
+    POLKA_DECAPSULATION_FAILURE = 9,      /* no triple: a step of the opening fails */
+    POLKA_TAG_MISMATCH = 10,              /* bad tag: the tag is not that of the body */
+    POLKA_ENCAPSULATION_OUT_OF_RANGE = 11 /* off the ring: a word of an encapsulation or of a sealed entry is 59,393 or more */
 };
+
+/* The record that has the bad word. A key is judged before what is opened with it, so the key is named where both have one. */
+enum polka_record_code {
+    POLKA_RECORD_PUBLIC_KEY = 1,
+    POLKA_RECORD_SEEDED_PUBLIC_KEY = 2,
+    POLKA_RECORD_SECRET_KEY = 3,
+    POLKA_RECORD_SEALED_ENTRY = 4,
+    POLKA_RECORD_ENCAPSULATION = 5
+};
+
+/* The part of that record. The first bad word is one of the first part that has any. */
+enum polka_part_code {
+    POLKA_PART_A = 1,
+    POLKA_PART_B = 2,
+    POLKA_PART_C1 = 4,
+    POLKA_PART_C2 = 5
+};
+
+/* The number of an answer, bits 0 to 7. */
+static inline uint32_t polka_number(uint32_t answer) {
+    return answer & 0xff;
+}
+
+/* Its part, bits 8 to 11. 0, as record and index are, under any number but 4 and 11. */
+static inline uint32_t polka_part(uint32_t answer) {
+    return (answer >> 8) & 0xf;
+}
+
+/* Its record, bits 12 to 15. Not 0 exactly where the answer tells of a bad word. */
+static inline uint32_t polka_record(uint32_t answer) {
+    return (answer >> 12) & 0xf;
+}
+
+/* The index of the bad word in its part, 0 to 1,023, bits 16 to 27. */
+static inline uint32_t polka_index(uint32_t answer) {
+    return (answer >> 16) & 0xfff;
+}
 
 /* Makes a key pair. It tries once: under 6 (about one try in sixty) and 8 try again with new bytes.
  * Answers 0; 1, 8, 6, in this order. */
@@ -119,7 +164,7 @@ uint32_t polka_encapsulate(const uint8_t *public_key, size_t public_key_length, 
                            uint8_t *encapsulation, size_t encapsulation_length); /* POLKA_ENCAPSULATION_LENGTH, written */
 
 /* The triple of an encapsulation (bare opening). The dummy has no part in the answer.
- * Answers 0; 1; for the key 2, 3, 4, 5, 6, 7; for the encapsulation 4; for the dummy 5; 9. */
+ * Answers 0; 1; for the key 2, 3, 4, 5, 6, 7; for the encapsulation 11; for the dummy 5; 9. */
 POLKA_ANSWER
 uint32_t polka_decapsulate(const uint8_t *secret_key, size_t secret_key_length,       /* POLKA_SECRET_KEY_LENGTH */
                            const uint8_t *encapsulation, size_t encapsulation_length, /* POLKA_ENCAPSULATION_LENGTH */
@@ -136,7 +181,7 @@ uint32_t polka_seal(const uint8_t *public_key, size_t public_key_length, /* POLK
                     uint8_t *sealed, size_t sealed_length);              /* POLKA_SEALED_ENTRY_LENGTH, written */
 
 /* Opens a sealed entry. The dummy noise has no part in the answer.
- * Answers 0; 1; for the key 2, 3, 4, 5, 6, 7; for the sealed entry 2, 3, 4; 9; 10. */
+ * Answers 0; 1; for the key 2, 3, 4, 5, 6, 7; for the sealed entry 2, 3, 11; 9; 10. */
 POLKA_ANSWER
 uint32_t polka_open(const uint8_t *secret_key, size_t secret_key_length,   /* POLKA_SECRET_KEY_LENGTH */
                     const uint8_t *sealed, size_t sealed_length,           /* POLKA_SEALED_ENTRY_LENGTH */

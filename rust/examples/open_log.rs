@@ -1,8 +1,10 @@
 //! Opens a whole log under one key, as a desk does when the races are over.
 //! usage: open_log KEY [LOG]     KEY is the file of a secret key. LOG is a file of sealed entries in a row, or a folder with one in each
 //!                               file, taken in the order of their names; without it the entries come on standard input
-//! Each entry has a line: its place (from 1, or its file), the number, and the entry in hexadecimal digits or `-`. A count ends the log,
-//! and the places of refused entries by number. Answers 0 if all were opened, 1 if one was refused, 2 if there is no key or no log.
+//! Each entry has a line: its place (from 1, or its file), the number, and the entry in hexadecimal digits or `-`, then where a word of it
+//! is damaged. A count ends the log, and the places of refused entries by number. Answers 0 if all were opened, 1 if one was refused, 2 if
+//! there is no key or no log.
+use std::collections::BTreeMap;
 use std::error::Error;
 use std::fs::{self, File};
 use std::io::{self, Read, Write};
@@ -38,14 +40,26 @@ fn folder(path: &Path) -> io::Result<Log> {
     })))
 }
 
+/// Where a word is damaged, with `before` in front of it; nothing where the refusal tells of none.
+fn location(before: &str, refusal: polka::Error) -> String {
+    refusal.location().map_or_else(String::new, |location| format!("{before}{location}"))
+}
+
+fn under(refusal: polka::Error) -> String {
+    format!("refused under {}, {}{}", refusal.number(), refusal.word(), location(": ", refusal))
+}
+
 /// Its bytes go from the file to their one place, and are judged once.
 fn read_key(path: &Path) -> Result<SecretKey, Box<dyn Error>> {
     let mut file = File::open(path)?;
-    let key = SecretKey::filled_by(|bytes| file.read_exact(bytes))?;
+    let key = SecretKey::filled_by(|bytes| file.read_exact(bytes)).map_err(|error| match error.kind() {
+        io::ErrorKind::UnexpectedEof => under(polka::Error::WrongLength),
+        _ => error.to_string(),
+    })?;
     if file.read(&mut [0])? > 0 {
-        return Err(polka::Error::WrongLength.into());
+        return Err(under(polka::Error::WrongLength).into());
     }
-    polka::check_secret_key(&key)?;
+    polka::check_secret_key(&key).map_err(under)?;
     Ok(key)
 }
 
@@ -53,7 +67,8 @@ fn read_key(path: &Path) -> Result<SecretKey, Box<dyn Error>> {
 fn open_log(key: &SecretKey, log: Log, out: &mut impl Write) -> Result<bool, Box<dyn Error>> {
     let mut random = File::open("/dev/urandom")?;
     let mut opened = 0;
-    let mut refused = vec![];
+    // by number: its word, and the places
+    let mut refused: BTreeMap<u32, (&str, Vec<String>)> = BTreeMap::new();
     for entry in log {
         let (place, bytes) = entry?;
         let dummy = TripleNoise::filled_by(|bytes| random.read_exact(bytes))?;
@@ -64,17 +79,15 @@ fn open_log(key: &SecretKey, log: Log, out: &mut impl Write) -> Result<bool, Box
                 opened += 1;
             }
             Err(refusal) => {
-                writeln!(out, "{place}: {} -", refusal.number())?;
-                refused.push((refusal, place));
+                writeln!(out, "{place}: {} -{}", refusal.number(), location(" ", refusal))?;
+                refused.entry(refusal.number()).or_insert((refusal.word(), vec![])).1.push(place);
             }
         }
     }
-    writeln!(out, "{} entries: {opened} opened, {} refused", opened + refused.len(), refused.len())?;
-    for &kind in polka::Error::ALL {
-        let places: Vec<&str> = refused.iter().filter(|(refusal, _)| *refusal == kind).map(|(_, place)| &place[..]).collect();
-        if !places.is_empty() {
-            writeln!(out, "refused under {}, {}: {}", kind.number(), kind.word(), places.join(", "))?;
-        }
+    let count: usize = refused.values().map(|(_, places)| places.len()).sum();
+    writeln!(out, "{} entries: {opened} opened, {count} refused", opened + count)?;
+    for (number, (word, places)) in &refused {
+        writeln!(out, "refused under {number}, {word}: {}", places.join(", "))?;
     }
     Ok(refused.is_empty())
 }

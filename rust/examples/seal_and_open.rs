@@ -1,4 +1,5 @@
-//! Makes a key pair from the system's random bytes, seals an entry, opens it, and shows that a changed tag is refused.
+//! Makes a key pair from the system's random bytes, seals an entry, opens it, and shows that a changed tag is refused, and a damaged word,
+//! which is named.
 use std::error::Error;
 use std::fs::File;
 use std::io::Read;
@@ -39,6 +40,14 @@ fn main() -> Result<(), Box<dyn Error>> {
     match polka::open(&secret_key, &changed.into(), dummy) {
         Err(refusal) => println!("with a changed tag: {refusal}"),
         Ok(_) => return Err("a changed tag was accepted".into()),
+    }
+
+    // word 17 of c2, behind mark, version and c1
+    changed[5 + 2 * (1024 + 17)..][..2].fill(0xff);
+    let dummy = TripleNoise::filled_by(|bytes| random.read_exact(bytes))?;
+    match polka::open(&secret_key, &changed.into(), dummy) {
+        Err(refusal) => println!("with a damaged word: {refusal}"),
+        Ok(_) => return Err("a damaged word was accepted".into()),
     }
     Ok(())
 }

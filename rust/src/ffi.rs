@@ -1,6 +1,7 @@
-//! The exports of the archive, over slices of any length. They answer document 01's number; under any number but 0 no output byte has
-//! changed. All other modules go through these: nothing else here is unsafe. Tests and benchmark, which lend any length, compile this
-//! file once more as their own.
+//! The exports of the archive, over slices of any length. They answer a code: 0 exactly when done, else a number of documents 01 and 02,
+//! under 4 and 11 with the place of the bad word above it, as `include/polka.h` has it. Under any code but 0 no output byte has changed.
+//! All other modules go through these: nothing else here is unsafe. Tests and benchmark, which lend any length, compile this file once
+//! more as their own.
 
 // Nothing checks these against the Rattle source: a slice is a pointer and a length.
 mod archive {

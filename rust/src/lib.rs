@@ -3,7 +3,7 @@
 //! A desk makes a key pair ([`keygen`], or [`keygen_from_seed`] for a public key half as long); a console seals 16-byte entries under the
 //! public key ([`seal`]); the desk opens them ([`open`]). [`encapsulate`] and [`decapsulate`] are the scheme without an entry. Every call
 //! judges the records that it is lent, in the order that documents 01 and 02, the buyer's scope and change requests, fix, and answers
-//! [`Error`] at the first fault.
+//! [`Error`] at the first fault. Where that is a word off the ring, it has a [`Location`]: which record is damaged, and where.
 //!
 //! The library draws no random bytes. Streams, seeds and noise come from the caller and must be uniform and new each time. Noise is secret
 //! too: it is taken by value and cannot be copied, so that none is used twice by accident.
@@ -40,6 +40,12 @@
 //! changed[4132] ^= 1;
 //! let dummy = TripleNoise::filled_by(|bytes| random.read_exact(bytes))?;
 //! assert_eq!(polka::open(&secret_key, &changed.into(), dummy).unwrap_err(), Error::TagMismatch);
+//!
+//! // Where a word of c2 is damaged, it is not the key that must be replaced.
+//! changed[5 + 2 * (1024 + 17)..][..2].fill(0xff);
+//! let dummy = TripleNoise::filled_by(|bytes| random.read_exact(bytes))?;
+//! let error = polka::open(&secret_key, &changed.into(), dummy).unwrap_err();
+//! assert_eq!(error.location().unwrap().to_string(), "sealed entry, c2, word 17");
 //! # Ok::<(), Box<dyn std::error::Error>>(())
 //! ```
 //!
@@ -55,9 +61,11 @@ mod error;
 // The only module with unsafe code.
 #[allow(unsafe_code)]
 mod ffi;
+mod location;
 mod records;
 
 pub use error::Error;
+pub use location::{Location, Part, Record};
 pub use records::{
     Encapsulation, Entry, KeyNoise, PublicKey, PublicRecord, SealedEntry, SecretKey, Seed, SeededPublicKey, Triple, TripleNoise,
     UniformStream,

@@ -1,7 +1,15 @@
-//! include/polka.h and this package say the same: lengths, numbers, words, version. Linking looks only at the names of calls: that their
-//! arguments fit shows in the vectors, which both C and Rust run.
+//! include/polka.h and this package say the same: lengths, numbers, words, what a code holds, version. Linking looks only at the names of
+//! calls: that their arguments fit shows in the vectors, which both C and Rust run.
+mod common;
+
+use std::fs;
+use std::path::Path;
+use std::process::Command;
+
+use common::random::Random;
 use polka::{
-    Encapsulation, Entry, Error, KeyNoise, PublicKey, SealedEntry, SecretKey, Seed, SeededPublicKey, Triple, TripleNoise, UniformStream,
+    Encapsulation, Entry, Error, KeyNoise, Part, PublicKey, Record, SealedEntry, SecretKey, Seed, SeededPublicKey, Triple, TripleNoise,
+    UniformStream,
 };
 
 const HEADER: &str = include_str!("../../include/polka.h");
@@ -39,20 +47,104 @@ fn lengths() {
     assert_eq!(defined.count(), all.len());
 }
 
-/// WrongLength is POLKA_WRONG_LENGTH.
-fn c_name(error: Error) -> String {
-    let name = format!("{error:?}");
-    name.chars()
-        .fold("POLKA".into(), |name, c| if c.is_uppercase() { format!("{name}_{c}") } else { format!("{name}{}", c.to_ascii_uppercase()) })
+/// WrongLength is WRONG_LENGTH; what a case carries is left out.
+fn c_name(case: &impl std::fmt::Debug) -> String {
+    let case = format!("{case:?}");
+    let name = case.split('(').next().unwrap();
+    let starts = |at: usize, c: char| at > 0 && c.is_uppercase();
+    name.char_indices().map(|(at, c)| format!("{}{}", if starts(at, c) { "_" } else { "" }, c.to_ascii_uppercase())).collect()
+}
+
+/// What the header names so, in decimal.
+fn c_value(prefix: &str, case: &impl std::fmt::Debug) -> u32 {
+    value(&format!("POLKA_{prefix}{}", c_name(case))).parse().unwrap()
+}
+
+/// How many lines of the header give a name that starts so a value.
+fn named(prefix: &str) -> usize {
+    HEADER.lines().filter(|line| line.trim_start().starts_with(prefix) && line.contains(" = ")).count()
+}
+
+const RECORDS: [Record; 5] = [Record::PublicKey, Record::SeededPublicKey, Record::SecretKey, Record::SealedEntry, Record::Encapsulation];
+const PARTS: [Part; 4] = [Part::A, Part::B, Part::C1, Part::C2];
+
+/// The code of a bad word, by the bits that the header states.
+fn located(number: u32, record: u32, part: u32, index: u32) -> u32 {
+    number | part << 8 | record << 12 | index << 16
 }
 
 #[test]
 fn numbers_and_words() {
     assert_eq!(value("POLKA_DONE"), "0");
-    for &error in Error::ALL {
-        assert_eq!(value(&c_name(error)), error.number().to_string());
+    for number in 1..=11 {
+        // 4 and 11 come with a bad word
+        let code = if [4, 11].contains(&number) { located(number, 1, 1, 0) } else { number };
+        let error = Error::from_code(code).unwrap();
+        assert_eq!(error.number(), number);
+        assert_eq!(c_value("", &error), number);
         assert!(HEADER.contains(&format!("/* {}: ", error.word())), "{}", error.word());
     }
+    assert_eq!(named("POLKA_") - named("POLKA_RECORD_") - named("POLKA_PART_"), 12);
+}
+
+/// Every record with every part, at both ends of the index.
+fn located_codes() -> Vec<u32> {
+    let mut all = vec![];
+    for record in RECORDS.map(|record| c_value("RECORD_", &record)) {
+        for part in PARTS.map(|part| c_value("PART_", &part)) {
+            all.extend([0, 17, 1023].into_iter().flat_map(|index| [4, 11].map(|number| located(number, record, part, index))));
+        }
+    }
+    all
+}
+
+#[test]
+fn records_and_parts() {
+    assert_eq!((named("POLKA_RECORD_"), named("POLKA_PART_")), (RECORDS.len(), PARTS.len()));
+    for code in located_codes() {
+        let location = Error::from_code(code).unwrap().location().unwrap();
+        let (record, part) = (c_value("RECORD_", &location.record()), c_value("PART_", &location.part()));
+        assert_eq!(located(code & 0xff, record, part, location.index() as u32), code);
+    }
+}
+
+/// A line for each code: its number, record, part and index by the header's functions.
+const FIELDS: &str = r#"
+#include <stdio.h>
+#include <stdlib.h>
+
+#include "polka.h"
+
+int main(int count, char **codes) {
+    for (int i = 1; i < count; i++) {
+        uint32_t code = (uint32_t)strtoul(codes[i], NULL, 10);
+        printf("%u %u %u %u\n", (unsigned)polka_number(code), (unsigned)polka_record(code), (unsigned)polka_part(code),
+               (unsigned)polka_index(code));
+    }
+    return 0;
+}
+"#;
+
+/// What that program prints.
+fn fields(codes: &[u32]) -> String {
+    let room = Path::new(env!("CARGO_TARGET_TMPDIR"));
+    let (source, program) = (room.join("fields.c"), room.join("fields"));
+    fs::write(&source, FIELDS).unwrap();
+    let include = Path::new(env!("CARGO_MANIFEST_DIR")).join("../include");
+    let compiler = std::env::var_os("CC").unwrap_or("cc".into());
+    let compiled = Command::new(compiler).arg("-I").arg(include).arg(source).arg("-o").arg(&program).status();
+    assert!(compiled.expect("a C compiler").success());
+    let output = Command::new(program).args(codes.iter().map(u32::to_string)).output().unwrap();
+    String::from_utf8(output.stdout).unwrap()
+}
+
+/// Of any code the header's functions give the bits from which the package reads the known ones.
+#[test]
+fn fields_of_a_code() {
+    let mut random = Random::new(701);
+    let codes: Vec<u32> = (0..=11).chain(located_codes()).chain((0..1000).map(|_| random.next() as u32)).collect();
+    let line = |code: &u32| format!("{} {} {} {}\n", code & 0xff, code >> 12 & 0xf, code >> 8 & 0xf, code >> 16 & 0xfff);
+    assert_eq!(fields(&codes), codes.iter().map(line).collect::<String>());
 }
 
 #[test]

@@ -122,13 +122,17 @@ fn other_dummies_give_the_same_answer() {
         let (public_key, secret_key, _) = new_key(&mut random);
         let mut sealed = *polka::seal(&public_key, noise(&mut random), &Entry::from(&random.array())).unwrap().as_bytes();
         let mut encapsulation = *polka::encapsulate(&public_key, &triple(&mut random)).unwrap().as_bytes();
-        // a third sound, a third with another c, a third with another tag
+        // a quarter sound, a quarter with another c, a quarter with a bad word, a quarter with another tag
         let place = random.below(2048);
-        match key % 3 {
+        match key % 4 {
             0 => {}
             1 => {
                 sealed[5 + 2 * place] ^= 1;
                 encapsulation[2 * place] ^= 1;
+            }
+            2 => {
+                sealed[5 + 2 * place..][..2].fill(0xff);
+                encapsulation[2 * place..][..2].fill(0xff);
             }
             _ => sealed[4117 + random.below(16)] ^= 0x10,
         }

@@ -4,8 +4,24 @@ mod common;
 use std::sync::Barrier;
 use std::thread;
 
+use common::answers;
 use common::random::Random;
 use polka::{Entry, Error, KeyNoise, PublicKey, SealedEntry, Seed, TripleNoise};
+
+/// What an entry at this place of the log answers: every tenth has another tag, and every tenth a bad word.
+fn refusal(place: usize) -> Option<Error> {
+    let code = match place % 10 {
+        9 => 10,
+        4 => answers::located(11, "sealed_entry", if bad_word(place) < 1024 { "c1" } else { "c2" }, bad_word(place) % 1024),
+        _ => 0,
+    };
+    Error::from_code(code)
+}
+
+/// Among the 2,048 of c1 and c2.
+fn bad_word(place: usize) -> usize {
+    4 * place
+}
 
 #[test]
 fn two_threads_open_at_once() {
@@ -22,8 +38,11 @@ fn two_threads_open_at_once() {
         .map(|i| {
             let bytes: [u8; 16] = random.array();
             let mut sealed = *polka::seal(&public_key, TripleNoise::from(&random.array()), &Entry::from(&bytes)).unwrap().as_bytes();
-            // every tenth with another tag
-            sealed[4132] ^= u8::from(i % 10 == 9);
+            match refusal(i) {
+                Some(Error::TagMismatch) => sealed[4132] ^= 1,
+                Some(_) => sealed[5 + 2 * bad_word(i)..][..2].fill(0xff),
+                None => {}
+            }
             (bytes, SealedEntry::from(sealed))
         })
         .collect();
@@ -40,8 +59,8 @@ fn two_threads_open_at_once() {
                     for (i, (bytes, sealed)) in entries.iter().enumerate() {
                         let opened = polka::open(secret_key, sealed, TripleNoise::from(&random.array()));
                         let right = match opened {
-                            Ok(entry) => i % 10 != 9 && entry.as_bytes() == bytes,
-                            Err(error) => i % 10 == 9 && error == Error::TagMismatch,
+                            Ok(entry) => refusal(i).is_none() && entry.as_bytes() == bytes,
+                            Err(error) => refusal(i) == Some(error),
                         };
                         // sealing in between under both records, so that the threads do not stay in step
                         let noise: [u8; 1536] = random.array();

@@ -49,15 +49,25 @@ fn key_and_log() -> (Vec<u8>, Vec<Vec<u8>>) {
     log[1][4132] ^= 1; // tag: 10
     log[3][0] ^= 1; // mark: 2
     log[4][4] = 9; // version: 3
-    log[6][6] = 0xff; // c1 from 65,280 on: 4
+    log[6][5 + 2 * 3 + 1] = 0xff; // word 3 of c1 from 65,280 on: 11
     log[7][4100] ^= 0x40; // c2 far off: 9
+    log[9][5 + 2 * (1024 + 17) + 1] = 0xff; // word 17 of c2: 11
     log[10][4110] ^= 1; // body: 10
     (sound.open.inputs[0].clone(), log)
 }
 
-/// What the desk says of an entry, by the reference.
-fn line(key: &[u8], sealed: &[u8]) -> String {
-    desk_line(&REFERENCE, &[key, sealed, &[0; 1536]].concat()).1.trim_end().to_string()
+/// What the desk says of an entry, by the reference, and where a word of it is damaged.
+fn line(key: &[u8], sealed: &[u8], location: &str) -> String {
+    format!("{}{location}", desk_line(&REFERENCE, &[key, sealed, &[0; 1536]].concat()).1.trim_end())
+}
+
+/// Where the log's entries are damaged, in words.
+fn location(place: usize) -> &'static str {
+    match place {
+        6 => " sealed entry, c1, word 3",
+        9 => " sealed entry, c2, word 17",
+        _ => "",
+    }
 }
 
 fn printed(words: &[&str]) -> Result<(bool, Vec<String>), String> {
@@ -77,16 +87,16 @@ fn a_file_of_entries_in_a_row() {
     let (all, lines) = printed(&[&key_file, &room.write("log", &log.concat())]).unwrap();
     assert!(!all);
     for (place, sealed) in log.iter().enumerate() {
-        assert_eq!(lines[place], format!("{}: {}", place + 1, line(&key, sealed)));
+        assert_eq!(lines[place], format!("{}: {}", place + 1, line(&key, sealed, location(place))));
     }
     let end = [
-        "13 entries: 6 opened, 7 refused",
+        "13 entries: 5 opened, 8 refused",
         "refused under 1, misfit: 13",
         "refused under 2, stranger: 4",
         "refused under 3, other issue: 5",
-        "refused under 4, off the ring: 7",
         "refused under 9, no triple: 8",
         "refused under 10, bad tag: 2, 11",
+        "refused under 11, off the ring: 7, 10",
     ];
     assert_eq!(lines[13..], end);
 }
@@ -104,13 +114,13 @@ fn a_folder_with_an_entry_in_each_file() {
     let (all, lines) = printed(&[&key_file, room.0.join("log").to_str().unwrap()]).unwrap();
     assert!(!all);
     for (place, sealed) in log.iter().enumerate() {
-        assert_eq!(lines[place], format!("race-{place:02}: {}", line(&key, sealed)));
+        assert_eq!(lines[place], format!("race-{place:02}: {}", line(&key, sealed, location(place))));
     }
     assert_eq!(
         lines[12..16],
-        ["race-12: 1 -", "race-13: 1 -", "14 entries: 6 opened, 8 refused", "refused under 1, misfit: race-12, race-13"]
+        ["race-12: 1 -", "race-13: 1 -", "14 entries: 5 opened, 9 refused", "refused under 1, misfit: race-12, race-13"]
     );
-    assert_eq!(lines.last().unwrap(), "refused under 10, bad tag: race-01, race-10");
+    assert_eq!(lines.last().unwrap(), "refused under 11, off the ring: race-06, race-09");
 }
 
 #[test]
@@ -132,9 +142,14 @@ fn no_key_or_no_log() {
     assert!(printed(&[&missing, &log_file]).is_err());
     assert!(printed(&[&key_file, &missing]).is_err());
     assert!(printed(&[]).unwrap_err().starts_with("usage"));
-    let long = room.write("long", &[&key[..], &[0]].concat());
-    assert!(printed(&[&long, &log_file]).unwrap_err().ends_with("(1, misfit)"));
-    assert!(printed(&[&room.write("short", &key[..4356]), &log_file]).is_err());
+    let refused = |name: &str, key: &[u8], why: &str| {
+        let path = room.write(name, key);
+        assert_eq!(printed(&[&path, &log_file]).unwrap_err(), format!("{path}: refused under {why}"));
+    };
+    refused("long", &[&key[..], &[0]].concat(), "1, misfit");
+    refused("short", &key[..4356], "1, misfit");
+    key[5 + 2 * (1024 + 17)..][..2].fill(0xff);
+    refused("damaged", &key, "4, off the ring: secret key, b, word 17");
     key[0] ^= 1;
-    assert!(printed(&[&room.write("other", &key), &log_file]).unwrap_err().ends_with("(2, stranger)"));
+    refused("other", &key, "2, stranger");
 }

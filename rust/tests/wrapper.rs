@@ -1,18 +1,64 @@
 //! The types of the wrapper: lengths, refusals, and that no secret is shown.
-use polka::{Entry, Error, KeyNoise, PublicKey, PublicRecord, SealedEntry, SecretKey, Seed, SeededPublicKey, Triple, TripleNoise};
+mod common;
+
+use common::answers;
+use polka::{
+    Encapsulation, Entry, Error, KeyNoise, Part, PublicKey, PublicRecord, Record, SealedEntry, SecretKey, Seed, SeededPublicKey, Triple,
+    TripleNoise,
+};
+
+/// The refusal with this number and this location in the vectors' words.
+fn error(number: u32, location: &str) -> Error {
+    Error::from_code(answers::code(number, location)).unwrap()
+}
 
 #[test]
 fn refusals_know_their_numbers_and_words() {
-    for (number, &error) in (1..).zip(Error::ALL) {
-        assert_eq!(error.number(), number);
-        assert_eq!(Error::from_number(number), Some(error));
+    for number in [1, 2, 3, 5, 6, 7, 8, 9, 10] {
+        let error = error(number, "");
+        assert_eq!((error.number(), error.location()), (number, None));
         assert_eq!(error.to_string(), format!("{} ({number}, {})", error.meaning(), error.word()));
     }
-    assert_eq!(Error::ALL.len(), 10);
-    assert_eq!(Error::from_number(0), None);
-    assert_eq!(Error::from_number(11), None);
+    assert_eq!(Error::from_code(0), None);
     assert_eq!(Error::DecapsulationFailure.to_string(), "no triple has this encapsulation under this key (9, no triple)");
     let _: &dyn std::error::Error = &Error::TagMismatch;
+}
+
+#[test]
+fn a_bad_word_has_a_location() {
+    let all = [
+        (4, "public_key a 0", Record::PublicKey, Part::A, 0, "public key, a, word 0"),
+        (4, "public_key b 1023", Record::PublicKey, Part::B, 1023, "public key, b, word 1023"),
+        (4, "seeded_public_key b 1", Record::SeededPublicKey, Part::B, 1, "seeded public key, b, word 1"),
+        (4, "secret_key a 512", Record::SecretKey, Part::A, 512, "secret key, a, word 512"),
+        (4, "secret_key b 17", Record::SecretKey, Part::B, 17, "secret key, b, word 17"),
+        (11, "sealed_entry c1 1023", Record::SealedEntry, Part::C1, 1023, "sealed entry, c1, word 1023"),
+        (11, "sealed_entry c2 17", Record::SealedEntry, Part::C2, 17, "sealed entry, c2, word 17"),
+        (11, "encapsulation c1 0", Record::Encapsulation, Part::C1, 0, "encapsulation, c1, word 0"),
+        (11, "encapsulation c2 255", Record::Encapsulation, Part::C2, 255, "encapsulation, c2, word 255"),
+    ];
+    for (number, words, record, part, index, shown) in all {
+        let error = error(number, words);
+        let location = error.location().unwrap();
+        assert_eq!((error.number(), error.word()), (number, "off the ring"));
+        assert_eq!((location.record(), location.part(), location.index()), (record, part, index));
+        assert_eq!(location.to_string(), shown);
+        assert_eq!(error.to_string(), format!("{}: {shown} ({number}, off the ring)", error.meaning()));
+        let same = if number == 4 { Error::KeyOutOfRange(location) } else { Error::EncapsulationOutOfRange(location) };
+        assert_eq!(error, same);
+    }
+}
+
+/// No archive of this version gives them: bits above a number that has none, no or another record or part, an index past the last word.
+#[test]
+fn unknown_codes_are_kept() {
+    let bad_word = answers::code(4, "secret_key b 17");
+    let others = [4, 11, 12, 255, 0x100, 0x101, 0x0001_0000, bad_word & !0xf00, bad_word & !0xf000, bad_word | 0x100, bad_word | 0x7000];
+    for code in others.into_iter().chain([bad_word + 0x0400_0000, bad_word | 0x1000_0000, bad_word + 1, u32::MAX]) {
+        let error = Error::from_code(code).unwrap();
+        assert_eq!((error, error.number(), error.location()), (Error::Unknown(code), code & 0xff, None));
+        assert!(error.to_string().ends_with(&format!("({}, unknown)", code & 0xff)));
+    }
 }
 
 #[test]
@@ -51,6 +97,34 @@ fn refusals_come_back_as_errors() {
     // s and e are 0, and so is b
     let (noise_s, noise_e) = (KeyNoise::from(&[0; 512]), KeyNoise::from(&[0; 512]));
     assert_eq!(polka::keygen_from_seed(&Seed::from([0; 32]), noise_s, noise_e).unwrap_err(), Error::NotInvertible);
+}
+
+/// A bad word of each record, by each call that is lent it.
+#[test]
+fn bad_words_come_back_as_locations() {
+    // all words of all records are 65,535
+    let record = |mark: &[u8]| [&[mark, &[1, 0]].concat()[..], &[0xff; 4096]].concat();
+    let secret_key = SecretKey::try_from(&[&record(b"SDK")[..], &[0; 256]].concat()[..]).unwrap();
+    let public_key = PublicKey::try_from(&record(b"PDK")[..]).unwrap();
+    let seeded = SeededPublicKey::try_from(&record(b"PDS")[..2085]).unwrap();
+    let (noise, entry, triple) = (|| TripleNoise::from(&[0; 1536]), Entry::from(&[0; 16]), Triple::from(&[0; 768]));
+    assert_eq!(polka::check_secret_key(&secret_key), Err(error(4, "secret_key a 0")));
+    for (key, location) in [(&public_key as &dyn PublicRecord, "public_key a 0"), (&seeded, "seeded_public_key b 0")] {
+        assert_eq!(polka::seal(key, noise(), &entry), Err(error(4, location)));
+        assert_eq!(polka::encapsulate(key, &triple), Err(error(4, location)));
+    }
+    // the key is named where both are bad
+    let sealed = SealedEntry::from([0xff; 4133]);
+    assert_eq!(polka::open(&secret_key, &sealed, noise()).unwrap_err(), error(4, "secret_key a 0"));
+    // a = 0, b = 5 and s = 0 are a sound key
+    let mut sound = [0; 4357];
+    sound[..5].copy_from_slice(b"SDK\x01\x00");
+    sound[2053] = 5;
+    let sound = SecretKey::from(&sound);
+    let sealed = SealedEntry::try_from(&[&record(b"PLG")[..], &[0; 32]].concat()[..]).unwrap();
+    assert_eq!(polka::open(&sound, &sealed, noise()).unwrap_err(), error(11, "sealed_entry c1 0"));
+    let encapsulation = Encapsulation::from([0xff; 4096]);
+    assert_eq!(polka::decapsulate(&sound, &encapsulation, triple).unwrap_err(), error(11, "encapsulation c1 0"));
 }
 
 /// Either record, also where only the running program knows which. The mark is another, or b is 0.
