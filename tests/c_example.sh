@@ -14,12 +14,13 @@ for example in seal_and_open open_log; do
     ${CC:-cc} -std=c11 -D_DEFAULT_SOURCE -O2 "${strict[@]}" "$top/examples/c/$example.c" "$archive" -o "$room/$example"
 done
 
-# warns COMPILER..: it takes the header, and warns where an answer is not looked at and only there
+# warns COMPILER..: it takes the header and its functions, and warns where an answer is not looked at and only there
 warns() {
     local head='#include "polka.h"\nuint32_t f(const uint8_t *k);uint32_t f(const uint8_t *k) {'
-    local tail='polka_check_secret_key(k, POLKA_SECRET_KEY_LENGTH);'
-    printf '%b return %s }\n' "$head" "$tail" | "$@" "${strict[@]}" -c -o /dev/null -
-    if printf '%b %s return 0; }\n' "$head" "$tail" | "$@" "${strict[@]}" -c -o /dev/null - 2>"$room/warning"; then
+    local call='polka_check_secret_key(k, POLKA_SECRET_KEY_LENGTH);'
+    local fields='polka_number(a) + polka_record(a) + polka_part(a) + polka_index(a)'
+    printf '%b uint32_t a = %s return %s; }\n' "$head" "$call" "$fields" | "$@" "${strict[@]}" -c -o /dev/null -
+    if printf '%b %s return 0; }\n' "$head" "$call" | "$@" "${strict[@]}" -c -o /dev/null - 2>"$room/warning"; then
         echo "WRONG: $*: an answer that is not looked at gives no warning"
         exit 1
     fi
@@ -40,9 +41,10 @@ fi
 expected='key check: 0
 seal "lane 4, 00:47.52": 0
 open: 0 "lane 4, 00:47.52"
-open with a changed tag: 10 "................"'
+open with a changed tag: 10 "................"
+open with a damaged word: 11 "................" sealed entry, c2, word 17'
 if [ "$(grep -v '^key generation: ' "$room/output")" = "$expected" ] && grep -qx 'key generation: 0' "$room/output"; then
-    echo "ok: sealed, opened, and refused with a changed tag"
+    echo "ok: sealed, opened, and refused with a changed tag and with a damaged word"
 else
     echo "WRONG: the example printed something else"
     exit 1

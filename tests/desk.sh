@@ -8,8 +8,8 @@ program=$top/target/bin/desk
 data=${1:-$top/crates/reference_vectors/data}
 wrong=0
 
-# desk.bin: for each case standard input, the number, an empty field and the line; a field is its length (four bytes, the low one
-# first) and its bytes
+# desk.bin: for each case standard input, the number, an empty field (the desk tells no location) and the line; a field is its length
+# (four bytes, the low one first) and its bytes
 python3 - "$program" "$data/desk.bin" <<'END' || wrong=1
 import subprocess
 import sys

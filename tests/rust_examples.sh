@@ -14,8 +14,9 @@ POLKA_ARCHIVE=$room/other.a cargo build --release --examples --manifest-path "$t
 examples=$room/target/release/examples
 
 "$examples/seal_and_open" | tee "$room/output"
-if grep -qx 'opened "lane 4, 00:47.52"' "$room/output" && grep -q '^with a changed tag: .*(10, bad tag)$' "$room/output"; then
-    echo "ok: sealed, opened, and refused with a changed tag"
+if grep -qx 'opened "lane 4, 00:47.52"' "$room/output" && grep -q '^with a changed tag: .*(10, bad tag)$' "$room/output" &&
+    grep -q '^with a damaged word: .*: sealed entry, c2, word 17 (11, off the ring)$' "$room/output"; then
+    echo "ok: sealed, opened, and refused with a changed tag and with a damaged word"
 else
     echo "WRONG: the example printed something else"
     exit 1

@@ -1,17 +1,22 @@
 /* Opens a log of sealed entries under one key, as a desk does when the races are over.
  * usage: open_log KEY LOG     KEY is the file of a secret key, LOG a file of sealed entries in a row
- * Each entry has a line: its place from 1, the number, and the entry in hexadecimal digits or `-`. A count ends the log, and the places
- * of refused entries by number. Answers 0 if all were opened, 1 if one was refused, 2 if there is no key or no log. */
+ * Each entry has a line: its place from 1, the number, and the entry in hexadecimal digits or `-`, then where a word of it is damaged. A
+ * count ends the log, and the places of refused entries by number. Answers 0 if all were opened, 1 if one was refused, 2 if there is no key
+ * or no log. */
 #include <stdio.h>
 #include <stdlib.h>
 #include <string.h>
 #include <sys/random.h>
 
+#include "location.h"
 #include "polka.h"
 
-/* Document 01's words, by number. */
-static const char *const words[] = {"done",    "misfit",     "stranger",   "other issue", "off the ring", "bad code",
-                                    "no unit", "parted key", "dry stream", "no triple",   "bad tag"};
+/* Document 01's word for a number. A later library may know more of them. */
+static const char *word(uint32_t number) {
+    static const char *const words[] = {"done",    "misfit",     "stranger",   "other issue", "off the ring", "bad code",
+                                        "no unit", "parted key", "dry stream", "no triple",   "bad tag",      "off the ring"};
+    return number < sizeof words / sizeof *words ? words[number] : "unknown";
+}
 
 static void stop(const char *what, const char *why) {
     fprintf(stderr, "%s: %s\n", what, why);
@@ -47,30 +52,35 @@ static void read_key(const char *path, uint8_t key[POLKA_SECRET_KEY_LENGTH + 1])
     fclose(file);
     uint32_t answer = polka_check_secret_key(key, length);
     if (answer != POLKA_DONE) {
-        stop(path, words[answer]);
+        fprintf(stderr, "%s: refused under %u, %s", path, (unsigned)polka_number(answer), word(polka_number(answer)));
+        print_location(stderr, ": ", answer);
+        fputs("\n", stderr);
+        exit(2);
     }
 }
 
-/* An entry that is cut off has a wrong length. */
-static uint32_t open_entry(const uint8_t *key, const uint8_t *sealed, size_t length, size_t place) {
+/* Answers the number. An entry that is cut off has a wrong length. */
+static uint8_t open_entry(const uint8_t *key, const uint8_t *sealed, size_t length, size_t place) {
     uint8_t dummy[POLKA_TRIPLE_NOISE_LENGTH], entry[POLKA_ENTRY_LENGTH];
     fill(dummy, sizeof dummy);
     uint32_t answer = polka_open(key, POLKA_SECRET_KEY_LENGTH, sealed, length, dummy, sizeof dummy, entry, sizeof entry);
     explicit_bzero(dummy, sizeof dummy);
-    printf("%zu: %u ", place, (unsigned)answer);
+    printf("%zu: %u ", place, (unsigned)polka_number(answer));
     for (size_t i = 0; answer == POLKA_DONE && i < sizeof entry; i++) {
         printf("%02x", entry[i]);
     }
-    puts(answer == POLKA_DONE ? "" : "-");
-    return answer;
+    fputs(answer == POLKA_DONE ? "" : "-", stdout);
+    print_location(stdout, " ", answer);
+    puts("");
+    return (uint8_t)polka_number(answer);
 }
 
-static void print_refused(uint32_t number, const uint8_t *answers, size_t entries) {
+static void print_refused(uint32_t number, const uint8_t *numbers, size_t entries) {
     int any = 0;
     for (size_t i = 0; i < entries; i++) {
-        if (answers[i] == number) {
+        if (numbers[i] == number) {
             if (!any) {
-                printf("refused under %u, %s:", (unsigned)number, words[number]);
+                printf("refused under %u, %s:", (unsigned)number, word(number));
             }
             printf("%s %zu", any ? "," : "", i + 1);
             any = 1;
@@ -89,14 +99,14 @@ int main(int count, char **paths) {
     read_key(paths[1], key);
     FILE *log = file_at(paths[2]);
     size_t entries = 0, opened = 0, length;
-    uint8_t *answers = NULL;
+    uint8_t *numbers = NULL;
     while ((length = fread(sealed, 1, sizeof sealed, log)) > 0) {
-        answers = realloc(answers, entries + 1);
-        if (answers == NULL) {
+        numbers = realloc(numbers, entries + 1);
+        if (numbers == NULL) {
             stop(paths[2], "no memory");
         }
-        answers[entries] = (uint8_t)open_entry(key, sealed, length, entries + 1);
-        opened += answers[entries] == POLKA_DONE;
+        numbers[entries] = open_entry(key, sealed, length, entries + 1);
+        opened += numbers[entries] == POLKA_DONE;
         entries++;
     }
     explicit_bzero(key, sizeof key);
@@ -104,8 +114,8 @@ int main(int count, char **paths) {
         stop(paths[2], "cannot be read");
     }
     printf("%zu entries: %zu opened, %zu refused\n", entries, opened, entries - opened);
-    for (uint32_t number = 1; number < sizeof words / sizeof *words; number++) {
-        print_refused(number, answers, entries);
+    for (uint32_t number = 1; number <= UINT8_MAX; number++) {
+        print_refused(number, numbers, entries);
     }
     return opened < entries;
 }

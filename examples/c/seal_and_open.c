@@ -1,9 +1,11 @@
-/* Makes a key pair from the system's random bytes, seals an entry, opens it, and shows that a changed tag is refused. */
+/* Makes a key pair from the system's random bytes, seals an entry, opens it, and shows that a changed tag is refused, and a damaged word,
+ * which is named. */
 #include <stdio.h>
 #include <stdlib.h>
 #include <string.h>
 #include <sys/random.h>
 
+#include "location.h"
 #include "polka.h"
 
 /* getrandom may answer a long request in parts. Without random bytes there is nothing to do. */
@@ -28,7 +30,7 @@ static uint32_t make_key(uint8_t public_key[POLKA_PUBLIC_KEY_LENGTH], uint8_t se
         fill(noise_e, sizeof noise_e);
         answer = polka_keygen(stream, sizeof stream, noise_s, sizeof noise_s, noise_e, sizeof noise_e, public_key,
                               POLKA_PUBLIC_KEY_LENGTH, secret_key, POLKA_SECRET_KEY_LENGTH);
-        printf("key generation: %u\n", (unsigned)answer);
+        printf("key generation: %u\n", (unsigned)polka_number(answer));
         /* about one b in sixty is no unit, and a stream may run dry: both call for new bytes */
     } while (answer == POLKA_NOT_INVERTIBLE || answer == POLKA_STREAM_EXHAUSTED);
     explicit_bzero(noise_s, sizeof noise_s);
@@ -56,6 +58,15 @@ static uint32_t open_sealed(const uint8_t secret_key[POLKA_SECRET_KEY_LENGTH], c
     return answer;
 }
 
+static uint32_t show_opening(const char *what, const uint8_t secret_key[POLKA_SECRET_KEY_LENGTH],
+                             const uint8_t sealed[POLKA_SEALED_ENTRY_LENGTH], uint8_t entry[POLKA_ENTRY_LENGTH]) {
+    uint32_t answer = open_sealed(secret_key, sealed, entry);
+    printf("%s: %u \"%.*s\"", what, (unsigned)polka_number(answer), POLKA_ENTRY_LENGTH, (const char *)entry);
+    print_location(stdout, " ", answer);
+    puts("");
+    return answer;
+}
+
 int main(void) {
     static uint8_t public_key[POLKA_PUBLIC_KEY_LENGTH], secret_key[POLKA_SECRET_KEY_LENGTH];
     static uint8_t sealed[POLKA_SEALED_ENTRY_LENGTH];
@@ -66,26 +77,31 @@ int main(void) {
         return 1;
     }
     uint32_t answer = polka_check_secret_key(secret_key, sizeof secret_key);
-    printf("key check: %u\n", (unsigned)answer);
+    printf("key check: %u\n", (unsigned)polka_number(answer));
     if (answer != POLKA_DONE) {
         return 1;
     }
 
     answer = seal(public_key, entry, sealed);
-    printf("seal \"%s\": %u\n", (const char *)entry, (unsigned)answer);
+    printf("seal \"%s\": %u\n", (const char *)entry, (unsigned)polka_number(answer));
     if (answer != POLKA_DONE) {
         return 1;
     }
 
-    answer = open_sealed(secret_key, sealed, opened);
-    printf("open: %u \"%.*s\"\n", (unsigned)answer, POLKA_ENTRY_LENGTH, (const char *)opened);
+    answer = show_opening("open", secret_key, sealed, opened);
     if (answer != POLKA_DONE || memcmp(entry, opened, POLKA_ENTRY_LENGTH) != 0) {
         return 1;
     }
 
     sealed[POLKA_SEALED_ENTRY_LENGTH - 1] ^= 1;
     memset(opened, '.', sizeof opened);
-    answer = open_sealed(secret_key, sealed, opened);
-    printf("open with a changed tag: %u \"%.*s\"\n", (unsigned)answer, POLKA_ENTRY_LENGTH, (const char *)opened);
-    return answer == POLKA_TAG_MISMATCH ? 0 : 1;
+    answer = show_opening("open with a changed tag", secret_key, sealed, opened);
+    if (answer != POLKA_TAG_MISMATCH) {
+        return 1;
+    }
+
+    /* word 17 of c2, behind mark, version and c1 */
+    memset(sealed + 5 + 2 * (1024 + 17), 0xff, 2);
+    answer = show_opening("open with a damaged word", secret_key, sealed, opened);
+    return polka_number(answer) == POLKA_ENCAPSULATION_OUT_OF_RANGE ? 0 : 1;
 }

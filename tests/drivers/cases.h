@@ -1,5 +1,5 @@
 /* The vectors by other hands for drivers in C: reads NAME.bin, and makes each call in buffers of their own. A field is a 32-bit length,
- * the low byte first, and that many bytes; a case is its inputs, the lengths of its outputs, the number, an empty field, and the outputs. */
+ * the low byte first, and that many bytes; a case is its inputs, the lengths of its outputs, the number, the location, and the outputs. */
 #ifndef CASES_H
 #define CASES_H
 
@@ -144,6 +144,49 @@ static int as_expected(struct buffer out, struct buffer expected, int refused) {
     return refused || out.length == expected.length;
 }
 
+static const char *record_name(uint32_t record) {
+    switch (record) {
+    case POLKA_RECORD_PUBLIC_KEY:
+        return "public_key";
+    case POLKA_RECORD_SEEDED_PUBLIC_KEY:
+        return "seeded_public_key";
+    case POLKA_RECORD_SECRET_KEY:
+        return "secret_key";
+    case POLKA_RECORD_SEALED_ENTRY:
+        return "sealed_entry";
+    case POLKA_RECORD_ENCAPSULATION:
+        return "encapsulation";
+    default:
+        return "?";
+    }
+}
+
+static const char *part_name(uint32_t part) {
+    switch (part) {
+    case POLKA_PART_A:
+        return "a";
+    case POLKA_PART_B:
+        return "b";
+    case POLKA_PART_C1:
+        return "c1";
+    case POLKA_PART_C2:
+        return "c2";
+    default:
+        return "?";
+    }
+}
+
+/* Whether an answer has this number and this location in words, RECORD PART INDEX or nothing, and no other bit. */
+static int is_answer(uint32_t answer, uint32_t expected, struct buffer location) {
+    char words[64] = "";
+    if (answer != polka_number(answer)) {
+        snprintf(words, sizeof words, "%s %s %u", record_name(polka_record(answer)), part_name(polka_part(answer)),
+                 (unsigned)polka_index(answer));
+    }
+    return polka_number(answer) == expected && answer >> 28 == 0 && location.length == strlen(words) &&
+           memcmp(location.bytes, words, location.length) == 0;
+}
+
 /* How a driver makes a call. */
 typedef uint32_t make_function(run_function *run, struct buffer *in, struct buffer *out);
 
@@ -159,9 +202,10 @@ static int run_case(FILE *file, const struct call *call, struct buffer first, ma
         }
     }
     uint32_t expected = next_number(file);
-    free(next_field(file).bytes);
+    struct buffer location = next_field(file);
     uint32_t answer = make(call->run, in, out);
-    int right = answer == expected;
+    int right = is_answer(answer, expected, location);
+    free(location.bytes);
     for (int i = 0; i < call->outputs; i++) {
         struct buffer field = next_field(file);
         right = right && as_expected(out[i], field, expected != POLKA_DONE);
