@@ -60,9 +60,9 @@ seal() {
     echo "   sealed entry: $(size "$room/sealed") bytes"
 }
 
-# opened SEALED LINE: what the desk says of a sealed entry, each time with a dummy of its own
+# opened SEALED LINE [KEY]: what the desk says of a sealed entry, each time with a dummy of its own
 opened() {
-    line=$({ cat "$room/secret" "$1"; random 1536; } | "$bin/desk")
+    line=$({ cat "${3:-$room/secret}" "$1"; random 1536; } | "$bin/desk")
     echo "   $line"
     expect "$line" "$2"
 }
@@ -93,20 +93,34 @@ last=$(tail -c 1 "$room/sealed" | od -An -tu1 | tr -d ' ')
 opened "$room/damaged" "10 -"
 echo "   10 is a wrong tag"
 
-echo "6. No input at all."
+echo "6. A sealed entry with a damaged word, and a secret key with one."
+# off_ring FILE: its first word, behind mark and version, is 65,535
+off_ring() {
+    head -c 5 "$1"
+    printf '\xff\xff'
+    tail -c +8 "$1"
+}
+off_ring "$room/sealed" >"$room/damaged"
+off_ring "$room/secret" >"$room/damaged_key"
+opened "$room/damaged" "11 -"
+opened "$room/sealed" "4 -" "$room/damaged_key"
+opened "$room/damaged" "4 -" "$room/damaged_key"
+echo "   11 is a word of the entry, 4 one of the key, which is judged first"
+
+echo "7. No input at all."
 line=$("$bin/desk" </dev/null)
 echo "   $line"
 expect "$line" "1 -"
 echo "   1 is a wrong length"
 
-echo "7. make_key reads 1,056 random bytes, a seed among them, and writes the short public key and the secret key."
+echo "8. make_key reads 1,056 random bytes, a seed among them, and writes the short public key and the secret key."
 make_keys 1056 2085
 
-echo "8. seal_entry reads the short public key, 1,536 random bytes and the entry, and desk opens what it wrote."
+echo "9. seal_entry reads the short public key, 1,536 random bytes and the entry, and desk opens what it wrote."
 seal
 opened "$room/sealed" "0 $digits"
 
-echo "9. One byte less and one byte more than either input has."
+echo "10. One byte less and one byte more than either input has."
 for length in 1055 1057 3711 3713; do
     random "$length" >"$room/in"
     refused make_key "$room/in" 1
@@ -116,7 +130,7 @@ for length in 3636 3638 5652 5654; do
     refused seal_entry "$room/in" 1
 done
 
-echo "10. A short public key in an input that is as long as with a long one: its mark is not the long one's."
+echo "11. A short public key in an input that is as long as with a long one: its mark is not the long one's."
 { cat "$room/public"; random $((5653 - 2085)); } >"$room/in"
 refused seal_entry "$room/in" 2
 
@@ -138,14 +152,14 @@ same() {
     echo "   $1: the same $(size "$room/out") bytes"
 }
 
-echo "11. A key from a seed, and an entry sealed to one, by other hands (crates/reference_vectors/data)."
-# seed, noise of s, noise of e, two lengths, number, no place, public key, secret key
+echo "12. A key from a seed, and an entry sealed to one, by other hands (crates/reference_vectors/data)."
+# seed, noise of s, noise of e, two lengths, number, no location, public key, secret key
 file=$data/keygen_from_seed.bin at=0
 { field "$file"; field "$file"; field "$file"; } >"$room/in"
 { field "$file"; field "$file"; field "$file"; field "$file"; } >"$room/rest"
 { field "$file"; field "$file"; } >"$room/wanted"
 same make_key
-# public key, noise, entry, a length, number, no place, sealed entry: the first case with a short key
+# public key, noise, entry, a length, number, no location, sealed entry: the first case with a short key
 file=$data/seal.bin at=0
 while [ "$at" -lt "$(size "$file")" ]; do
     { field "$file"; field "$file"; field "$file"; } >"$room/in"
