@@ -8,8 +8,9 @@
  * - Every call looks at all lengths first, and refuses another length than named here.
  * - An output may overlap no other buffer of the call, input or output. Inputs may overlap each other.
  * - The answer is a code: POLKA_DONE, which is 0, exactly when the call is done, and else a refusal. polka_number gives its number, one of
- *   enum polka_answer. Under POLKA_KEY_OUT_OF_RANGE and POLKA_ENCAPSULATION_OUT_OF_RANGE the code also tells where the first bad word
- *   stands (polka_record, polka_part, polka_index); every other code is its number. Later versions may add numbers, records and parts.
+ *   enum polka_answer. Under POLKA_KEY_OUT_OF_RANGE and POLKA_ENCAPSULATION_OUT_OF_RANGE the code also tells where the first word of
+ *   59,393 or more stands (polka_record, polka_part, polka_index); every other code is its number. Later versions may add numbers, records
+ *   and parts.
  * - The numbers that a call can answer stand with it, in the order of its checks.
  * - Under any answer but POLKA_DONE every output byte is as it was before the call.
  * - Under POLKA_DONE every byte of every output is written.
@@ -96,7 +97,7 @@ enum polka_answer {
     POLKA_ENCAPSULATION_OUT_OF_RANGE = 11 /* off the ring: a word of an encapsulation or of a sealed entry is 59,393 or more */
 };
 
-/* The record that has the bad word. A key is judged before what is opened with it, so the key is named where both have one. */
+/* The record that has the word. A key is judged before what is opened with it, so the key is named where both have one. */
 enum polka_record_code {
     POLKA_RECORD_PUBLIC_KEY = 1,
     POLKA_RECORD_SEEDED_PUBLIC_KEY = 2,
@@ -105,7 +106,7 @@ enum polka_record_code {
     POLKA_RECORD_ENCAPSULATION = 5
 };
 
-/* The part of that record. The first bad word is one of the first part that has any. */
+/* The part of that record: a is judged before b, c1 before c2. */
 enum polka_part_code {
     POLKA_PART_A = 1,
     POLKA_PART_B = 2,
@@ -118,17 +119,17 @@ static inline uint32_t polka_number(uint32_t answer) {
     return answer & 0xff;
 }
 
-/* Its part, bits 8 to 11. 0, as record and index are, under any number but 4 and 11. */
+/* Its part, bits 8 to 11: one of enum polka_part_code, or 0 under any number but 4 and 11. */
 static inline uint32_t polka_part(uint32_t answer) {
     return (answer >> 8) & 0xf;
 }
 
-/* Its record, bits 12 to 15. Not 0 exactly where the answer tells of a bad word. */
+/* Its record, bits 12 to 15: one of enum polka_record_code, or 0 under any number but 4 and 11. */
 static inline uint32_t polka_record(uint32_t answer) {
     return (answer >> 12) & 0xf;
 }
 
-/* The index of the bad word in its part, 0 to 1,023, bits 16 to 27. */
+/* The index of the word in its part, bits 16 to 27: 0 to 1,023, and 0 under any number but 4 and 11. */
 static inline uint32_t polka_index(uint32_t answer) {
     return (answer >> 16) & 0xfff;
 }
