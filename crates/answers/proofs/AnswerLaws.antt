@@ -6,8 +6,8 @@ use mathlib.Core.List.{List}
 use Prim.Native.Nat.{ℕ, _<_}
 use native.Mathlib.Omega.{arith}
 use Rattle.answers.specs.declared.Refusal.{Refusal}
-use Rattle.answers.specs.declared.Refusal.the-variants.{WrongLength, WrongMark, WrongVersion, CoefficientOutOfRange, InvalidCode}
-use Rattle.answers.specs.declared.Refusal.the-variants.{NotInvertible, KeyMismatch, StreamExhausted, DecapsulationFailure, TagMismatch}
+use Rattle.answers.specs.declared.Refusal.the-variants.{WrongLength, WrongMark, WrongVersion, KeyOutOfRange, InvalidCode}
+use Rattle.answers.specs.declared.Refusal.the-variants.{NotInvertible, KeyMismatch, StreamExhausted, DecapsulationFailure, TagMismatch, EncapsulationOutOfRange}
 use Rattle.answers.specs.declared.Answer.{Answer}
 use Rattle.answers.specs.declared.Answer.the-variants.{Done, Refused}
 use Rattle.answers.specs.Answers.{refusalNumber, number, unless, andThen, onDone}
@@ -18,13 +18,14 @@ pub refusal-positive : (r : Refusal) → 0 < refusalNumber r
 refusal-positive WrongLength = omega arith
 refusal-positive WrongMark = omega arith
 refusal-positive WrongVersion = omega arith
-refusal-positive CoefficientOutOfRange = omega arith
+refusal-positive (KeyOutOfRange k) = omega arith
 refusal-positive InvalidCode = omega arith
 refusal-positive NotInvertible = omega arith
 refusal-positive KeyMismatch = omega arith
 refusal-positive StreamExhausted = omega arith
 refusal-positive DecapsulationFailure = omega arith
 refusal-positive TagMismatch = omega arith
+refusal-positive (EncapsulationOutOfRange c) = omega arith
 
 refusal-not-zero : (r : Refusal) → ¬ (refusalNumber r ≡ 0)
 refusal-not-zero r e = omega (arith, refusal-positive r, e)
