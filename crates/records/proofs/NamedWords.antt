@@ -12,15 +12,24 @@ use Rattle.ring.specs.Ring.{q, n, Element}
 use Rattle.encoding.specs.Words.{firstUnreduced}
 use Rattle.encoding.specs.Header.{hasMark, versionOf}
 use Rattle.encoding.proofs.Words.{length-elementOf, from-within, from-found, from-before, from-unique}
-use Rattle.answers.specs.declared.KeyRecord.the-variants.{SeededPublicKey}
+use Rattle.answers.specs.declared.KeyPart.{KeyPart}
+use Rattle.answers.specs.declared.KeyPart.the-variants.{A, B}
+use Rattle.answers.specs.declared.KeyRecord.{KeyRecord}
+use Rattle.answers.specs.declared.KeyRecord.the-variants.{PublicKey, SeededPublicKey, SecretKey}
+use Rattle.answers.specs.declared.EncapsulationPart.{EncapsulationPart}
+use Rattle.answers.specs.declared.EncapsulationPart.the-variants.{C1, C2}
+use Rattle.answers.specs.declared.EncapsulationRecord.{EncapsulationRecord}
+use Rattle.answers.specs.declared.EncapsulationRecord.the-variants.{SealedEntry, Encapsulation}
 use Rattle.answers.specs.declared.Refusal.{Refusal}
 use Rattle.answers.specs.declared.Answer.the-variants.{Done}
 use Rattle.answers.specs.declared.Location.{Location}
 use Rattle.answers.specs.Answers.{refusalNumber, unless}
-use Rattle.answers.specs.Locations.{at, seededPublicKey, bPart, refusalLocation, Names}
+use Rattle.answers.specs.Locations.{at, publicKey, seededPublicKey, secretKey, sealedEntry, encapsulation, aPart, bPart, c1Part, c2Part}
+use Rattle.answers.specs.Locations.{inKeyPart, inKey, inEncapsulationPart, inEncapsulation, refusalLocation, Names}
 use Rattle.answers.proofs.AnswerLaws.{then-names, names-either}
-use Rattle.records.specs.Layout.{seededKeyMark}
-use Rattle.records.specs.Records.{bWord, wordsAnswer, elementsAnswer, unreducedAnswer, firstOf, secondOf, recordAnswer, seededB, seededRecordAnswer}
+use Rattle.records.specs.Layout.{publicKeyMark, seededKeyMark, secretKeyMark, sealedEntryMark}
+use Rattle.records.specs.Records.{aWord, bWord, c1Word, c2Word, wordsAnswer, elementsAnswer, unreducedAnswer, firstOf, secondOf, recordAnswer}
+use Rattle.records.specs.Records.{publicFrontAnswer, secretFrontAnswer, sealedEntryAnswer, seededB, seededRecordAnswer, c1Of, c2Of, encapsulationAnswer}
 use Rattle.records.specs.Named.{FirstUnreduced, Named, NamedInTwo}
 use Rattle.records.proofs.RecordLaws.{header-done, header-never, words-done}
 
@@ -28,6 +37,20 @@ use Rattle.records.proofs.RecordLaws.{header-done, header-never, words-
 pub record WordOf (k r p : ℕ) (refusal : ℕ → Refusal) : Type 0 where
   pub numbered : (i : ℕ) → refusalNumber (refusal i) ≡ k
   pub located : (i : ℕ) → refusalLocation (refusal i) ≡ at r p i
+
+pub a-word : (key : KeyPart → KeyRecord) {r : ℕ} → ((p : KeyPart) → inKey (key p) ≡ inKeyPart r p) → WordOf 4 r aPart (aWord key)
+a-word key kind = record { numbered = λ i. refl; located = λ i. kind (A i) }
+
+pub b-word : (key : KeyPart → KeyRecord) {r : ℕ} → ((p : KeyPart) → inKey (key p) ≡ inKeyPart r p) → WordOf 4 r bPart (bWord key)
+b-word key kind = record { numbered = λ i. refl; located = λ i. kind (B i) }
+
+pub c1-word : (capsule : EncapsulationPart → EncapsulationRecord) {r : ℕ} → ((p : EncapsulationPart) → inEncapsulation (capsule p) ≡ inEncapsulationPart r p)
+    → WordOf 11 r c1Part (c1Word capsule)
+c1-word capsule kind = record { numbered = λ i. refl; located = λ i. kind (C1 i) }
+
+pub c2-word : (capsule : EncapsulationPart → EncapsulationRecord) {r : ℕ} → ((p : EncapsulationPart) → inEncapsulation (capsule p) ≡ inEncapsulationPart r p)
+    → WordOf 11 r c2Part (c2Word capsule)
+c2-word capsule kind = record { numbered = λ i. refl; located = λ i. kind (C2 i) }
 
 -- ---- one element
 
@@ -92,8 +115,27 @@ unfolding seededRecordAnswer
 seeded-named bytes l =
     Iff·trans
     (Iff·trans (then-names _ (header-never (omega arith) seededKeyMark 1 bytes))
-    (Iff·and (header-done seededKeyMark 1 bytes) (words-named (omega arith) of-b (seededB bytes) l (length-elementOf _))))
+    (Iff·and (header-done seededKeyMark 1 bytes) (words-named (omega arith) (b-word SeededPublicKey (λ p. refl)) (seededB bytes) l (length-elementOf _))))
     (λ ((m, v), named). (m, v, named), λ (m, v, named). ((m, v), named))
-  where
-    of-b : WordOf 4 seededPublicKey bPart (bWord SeededPublicKey)
-    of-b = record { numbered = λ i. refl; located = λ i. refl }
+
+-- header and words of each record
+abbrev Behind : (mark bytes : List ℕ) → Type 0 → Type 0
+Behind mark bytes named = (hasMark mark bytes ≡ true) × (versionOf bytes ≡ 1) × named
+
+pub public-front-named : (bytes : List ℕ) (l : Location)
+    → Names 4 l (publicFrontAnswer bytes) ↔ Behind publicKeyMark bytes (NamedInTwo publicKey aPart bPart (firstOf bytes) (secondOf bytes) l)
+public-front-named bytes l = record-named (omega arith) (a-word PublicKey (λ p. refl)) (b-word PublicKey (λ p. refl)) publicKeyMark 1 bytes l
+
+pub secret-front-named : (bytes : List ℕ) (l : Location)
+    → Names 4 l (secretFrontAnswer bytes) ↔ Behind secretKeyMark bytes (NamedInTwo secretKey aPart bPart (firstOf bytes) (secondOf bytes) l)
+secret-front-named bytes l = record-named (omega arith) (a-word SecretKey (λ p. refl)) (b-word SecretKey (λ p. refl)) secretKeyMark 1 bytes l
+
+pub sealed-entry-named : (bytes : List ℕ) (l : Location)
+    → Names 11 l (sealedEntryAnswer bytes) ↔ Behind sealedEntryMark bytes (NamedInTwo sealedEntry c1Part c2Part (firstOf bytes) (secondOf bytes) l)
+sealed-entry-named bytes l = record-named (omega arith) (c1-word SealedEntry (λ p. refl)) (c2-word SealedEntry (λ p. refl)) sealedEntryMark 1 bytes l
+
+pub encapsulation-named : (bytes : List ℕ) (l : Location)
+    → Names 11 l (encapsulationAnswer bytes) ↔ NamedInTwo encapsulation c1Part c2Part (c1Of bytes) (c2Of bytes) l
+encapsulation-named bytes l =
+    unreduced-named (omega arith) (c1-word Encapsulation (λ p. refl)) (c2-word Encapsulation (λ p. refl)) (c1Of bytes) (c2Of bytes) l
+    (length-elementOf _) (length-elementOf _)

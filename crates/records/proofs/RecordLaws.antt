@@ -14,12 +14,16 @@ use Rattle.encoding.specs.Codes.{firstInvalidCode}
 use Rattle.encoding.specs.Header.{hasMark, versionOf}
 use Rattle.encoding.proofs.Words.{length-elementOf, unreduced-iff}
 use Rattle.answers.specs.declared.Refusal.{Refusal}
-use Rattle.answers.specs.declared.KeyRecord.the-variants.{SeededPublicKey}
+use Rattle.answers.specs.declared.KeyPart.{KeyPart}
+use Rattle.answers.specs.declared.KeyRecord.{KeyRecord}
+use Rattle.answers.specs.declared.KeyRecord.the-variants.{PublicKey, SeededPublicKey, SecretKey}
+use Rattle.answers.specs.declared.EncapsulationRecord.the-variants.{SealedEntry, Encapsulation}
 use Rattle.answers.specs.declared.Refusal.the-variants.{WrongMark, WrongVersion, InvalidCode}
 use Rattle.answers.specs.declared.Answer.the-variants.{Done}
 use Rattle.answers.specs.Answers.{refusalNumber, unless}
-use Rattle.records.specs.Layout.{seededKeyMark}
-use Rattle.records.specs.Records.{headerAnswer, bWord, wordsAnswer, codesAnswer, elementsAnswer, unreducedAnswer, firstOf, secondOf, recordAnswer, seededB, seededRecordAnswer}
+use Rattle.records.specs.Layout.{publicKeyMark, seededKeyMark, secretKeyMark, sealedEntryMark}
+use Rattle.records.specs.Records.{headerAnswer, aWord, bWord, c1Word, c2Word, wordsAnswer, codesAnswer, elementsAnswer, unreducedAnswer, firstOf, secondOf, recordAnswer}
+use Rattle.records.specs.Records.{publicFrontAnswer, secretFrontAnswer, sealedEntryAnswer, seededB, seededRecordAnswer, c1Of, c2Of, encapsulationAnswer}
 use Rattle.records.specs.WellFormed.{WellFormedFront}
 use Rattle.answers.proofs.AnswerLaws.{unless-done, then-done, Never, done-never, unless-never, then-never}
 
@@ -48,7 +52,7 @@ unfolding elementsAnswer unreducedAnswer
 unreduced-done one other first second h1 h2 =
     Iff·trans (then-done _ _) (Iff·and (words-done first (one (firstUnreduced first)) h1) (words-done second (other (firstUnreduced second)) h2))
 
-pub record-done : (mark : List ℕ) (version : ℕ) (one other : ℕ → Refusal) (bytes : List ℕ)
+record-done : (mark : List ℕ) (version : ℕ) (one other : ℕ → Refusal) (bytes : List ℕ)
     → (recordAnswer mark version one other bytes ≡ Done) ↔ WellFormedFront mark version bytes
 unfolding recordAnswer
 record-done mark version one other bytes =
@@ -59,6 +63,15 @@ record-done mark version one other bytes =
       λ w. ((w .has-mark, w .has-version), (w .first-words, w .second-words)),
     )
 
+pub public-front-done : (bytes : List ℕ) → (publicFrontAnswer bytes ≡ Done) ↔ WellFormedFront publicKeyMark 1 bytes
+public-front-done = record-done publicKeyMark 1 (aWord PublicKey) (bWord PublicKey)
+
+pub secret-front-done : (bytes : List ℕ) → (secretFrontAnswer bytes ≡ Done) ↔ WellFormedFront secretKeyMark 1 bytes
+secret-front-done = record-done secretKeyMark 1 (aWord SecretKey) (bWord SecretKey)
+
+pub sealed-entry-done : (bytes : List ℕ) → (sealedEntryAnswer bytes ≡ Done) ↔ WellFormedFront sealedEntryMark 1 bytes
+sealed-entry-done = record-done sealedEntryMark 1 (c1Word SealedEntry) (c2Word SealedEntry)
+
 pub seeded-done : (bytes : List ℕ)
     → (seededRecordAnswer bytes ≡ Done) ↔ ((hasMark seededKeyMark bytes ≡ true) × (versionOf bytes ≡ 1) × Element (seededB bytes))
 unfolding seededRecordAnswer
@@ -67,6 +80,10 @@ seeded-done bytes =
     (Iff·trans (then-done _ _) (Iff·and (header-done seededKeyMark 1 bytes)
     (words-done (seededB bytes) (bWord SeededPublicKey (firstUnreduced (seededB bytes))) (length-elementOf _))))
     (λ ((m, v), words). (m, v, words), λ (m, v, words). ((m, v), words))
+
+pub encapsulation-done : (bytes : List ℕ) → (encapsulationAnswer bytes ≡ Done) ↔ (Element (c1Of bytes) × Element (c2Of bytes))
+encapsulation-done bytes =
+    unreduced-done (c1Word Encapsulation) (c2Word Encapsulation) (c1Of bytes) (c2Of bytes) (length-elementOf _) (length-elementOf _)
 
 -- ---- which numbers these checks never say
 
@@ -103,3 +120,23 @@ record-never h mark version one other bytes not-one not-other =
 pub seeded-never : {k : ℕ} → 4 < k → (bytes : List ℕ) → Never k (seededRecordAnswer bytes)
 unfolding seededRecordAnswer
 seeded-never h bytes = then-never (header-never (omega arith) seededKeyMark 1 bytes) (words-never (omega arith) _ _ (λ e. omega arith))
+
+-- a key's words are refused under 4
+key-record-never : {k : ℕ} → 4 < k → (mark : List ℕ) (version : ℕ) (key : KeyPart → KeyRecord) (bytes : List ℕ)
+    → Never k (recordAnswer mark version (aWord key) (bWord key) bytes)
+key-record-never h mark version key bytes =
+    record-never (omega arith) mark version (aWord key) (bWord key) bytes (λ i e. omega arith) (λ i e. omega arith)
+
+pub public-front-never : {k : ℕ} → 4 < k → (bytes : List ℕ) → Never k (publicFrontAnswer bytes)
+public-front-never h = key-record-never h publicKeyMark 1 PublicKey
+
+pub secret-front-never : {k : ℕ} → 4 < k → (bytes : List ℕ) → Never k (secretFrontAnswer bytes)
+secret-front-never h = key-record-never h secretKeyMark 1 SecretKey
+
+-- the words of what is sealed to a key are refused under 11
+pub sealed-entry-never : {k : ℕ} → 3 < k → ¬ (11 ≡ k) → (bytes : List ℕ) → Never k (sealedEntryAnswer bytes)
+sealed-entry-never h other bytes = record-never h sealedEntryMark 1 (c1Word SealedEntry) (c2Word SealedEntry) bytes (λ i e. other e) (λ i e. other e)
+
+pub encapsulation-never : {k : ℕ} → 0 < k → ¬ (11 ≡ k) → (bytes : List ℕ) → Never k (encapsulationAnswer bytes)
+encapsulation-never some other bytes =
+    unreduced-never some (c1Word Encapsulation) (c2Word Encapsulation) (c1Of bytes) (c2Of bytes) (λ i e. other e) (λ i e. other e)
