@@ -1,2 +1,4 @@
 -- Laws of answers.
 pub mod AnswerLaws
+-- Laws of their codes.
+pub mod CodeLaws

@@ -1,13 +1,13 @@
--- What a call answers, and document 01's number for it.
+-- What a call answers, and its number: document 01's, and document 02's (No. 3).
 use mathlib.Core.Bool.{Bool, true, false}
 use mathlib.Core.List.{List}
 use Prim.Native.Nat.{ℕ}
 use Rattle.answers.specs.declared.Refusal.{Refusal}
-use Rattle.answers.specs.declared.Refusal.the-variants.{WrongLength, WrongMark, WrongVersion, CoefficientOutOfRange, InvalidCode, NotInvertible, KeyMismatch, StreamExhausted, DecapsulationFailure, TagMismatch}
+use Rattle.answers.specs.declared.Refusal.the-variants.{WrongLength, WrongMark, WrongVersion, KeyOutOfRange, InvalidCode, NotInvertible, KeyMismatch, StreamExhausted, DecapsulationFailure, TagMismatch, EncapsulationOutOfRange}
 use Rattle.answers.specs.declared.Answer.{Answer}
 use Rattle.answers.specs.declared.Answer.the-variants.{Done, Refused}
 
--- document 01's words beside its numbers
+-- document 01's words beside the numbers
 abbrev pub refusalNumber : Refusal → ℕ
 -- misfit
 refusalNumber WrongLength = 1
@@ -15,8 +15,8 @@ refusalNumber WrongLength = 1
 refusalNumber WrongMark = 2
 -- other issue
 refusalNumber WrongVersion = 3
--- off the ring
-refusalNumber CoefficientOutOfRange = 4
+-- off the ring: of a key
+refusalNumber (KeyOutOfRange k) = 4
 -- bad code
 refusalNumber InvalidCode = 5
 -- no unit
@@ -29,6 +29,8 @@ refusalNumber StreamExhausted = 8
 refusalNumber DecapsulationFailure = 9
 -- bad tag
 refusalNumber TagMismatch = 10
+-- off the ring: of an encapsulation or a sealed entry
+refusalNumber (EncapsulationOutOfRange c) = 11
 
 abbrev pub number : Answer → ℕ
 number Done = 0

@@ -1,20 +1,50 @@
-// What a call answers, document 01's number for it, and how answers are joined, in the order of the checks.
+// What a call answers: its number, the place of a word that is out of range, both as one code, and how answers are joined, in the order of
+// the checks.
 ghost use mathlib.Core.Path.{_≡_};
 ghost use Rattle.answers.specs.declared.Answer.the-variants.{Done};
 ghost use Rattle.answers.specs.Answers.{refusalNumber, number, unless, andThen};
+ghost use Rattle.answers.specs.Locations.{inKeyPart, inKey, inEncapsulationPart, inEncapsulation, refusalLocation, location, code};
 
-// Why a call refuses: document 01's numbers 1 to 10.
+// ---- answers
+
+// The part of a key that has a word of q or more, and the index of its first.
+pub enum KeyPart {
+    A(usize),
+    B(usize),
+}
+
+// The key that has it.
+pub enum KeyRecord {
+    PublicKey(KeyPart),
+    SeededPublicKey(KeyPart),
+    SecretKey(KeyPart),
+}
+
+// The part of an encapsulation, bare or sealed with an entry, that has a word of q or more, and the index of its first.
+pub enum EncapsulationPart {
+    C1(usize),
+    C2(usize),
+}
+
+// The record that holds it.
+pub enum EncapsulationRecord {
+    SealedEntry(EncapsulationPart),
+    Encapsulation(EncapsulationPart),
+}
+
+// Why a call refuses: document 01's numbers 1 to 10, and document 02's 11.
 pub enum Refusal {
     WrongLength,
     WrongMark,
     WrongVersion,
-    CoefficientOutOfRange,
+    KeyOutOfRange(KeyRecord),
     InvalidCode,
     NotInvertible,
     KeyMismatch,
     StreamExhausted,
     DecapsulationFailure,
     TagMismatch,
+    EncapsulationOutOfRange(EncapsulationRecord),
 }
 
 // What a call answers.
@@ -23,6 +53,8 @@ pub enum Answer {
     Refused(Refusal),
 }
 
+// ---- the number
+
 fn refusal_number(r: Refusal) -> u32
     ensures { λ n. ⌜ n ≡ refusalNumber r ⌝ }
 {
@@ -30,17 +62,18 @@ fn refusal_number(r: Refusal) -> u32
         Refusal::WrongLength => 1,
         Refusal::WrongMark => 2,
         Refusal::WrongVersion => 3,
-        Refusal::CoefficientOutOfRange => 4,
+        Refusal::KeyOutOfRange(_) => 4,
         Refusal::InvalidCode => 5,
         Refusal::NotInvertible => 6,
         Refusal::KeyMismatch => 7,
         Refusal::StreamExhausted => 8,
         Refusal::DecapsulationFailure => 9,
         Refusal::TagMismatch => 10,
+        Refusal::EncapsulationOutOfRange(_) => 11,
     }
 }
 
-// Document 01's number of an answer.
+// The number of an answer.
 pub fn number(a: Answer) -> u32
     ensures { λ n. ⌜ n ≡ number a ⌝ }
 {
@@ -48,6 +81,105 @@ pub fn number(a: Answer) -> u32
         Answer::Done => 0,
         Answer::Refused(r) => refusal_number(r),
     }
+}
+
+// ---- the location
+
+// Where the first word of q or more stands: the codes of the record's kind and of the part, and its index. Zeros where the answer names no word.
+pub struct Location {
+    pub kind: u32,
+    pub part: u32,
+    pub index: usize,
+}
+
+fn in_key_part(kind: u32, p: KeyPart) -> Location
+    ensures { λ l. ⌜ l ≡ inKeyPart kind p ⌝ }
+{
+    match p {
+        KeyPart::A(index) => Location {
+            kind,
+            part: 1,
+            index,
+        },
+        KeyPart::B(index) => Location {
+            kind,
+            part: 2,
+            index,
+        },
+    }
+}
+
+fn in_key(k: KeyRecord) -> Location
+    ensures { λ l. ⌜ l ≡ inKey k ⌝ }
+{
+    match k {
+        KeyRecord::PublicKey(p) => in_key_part(1, p),
+        KeyRecord::SeededPublicKey(p) => in_key_part(2, p),
+        KeyRecord::SecretKey(p) => in_key_part(3, p),
+    }
+}
+
+fn in_encapsulation_part(kind: u32, p: EncapsulationPart) -> Location
+    ensures { λ l. ⌜ l ≡ inEncapsulationPart kind p ⌝ }
+{
+    match p {
+        EncapsulationPart::C1(index) => Location {
+            kind,
+            part: 4,
+            index,
+        },
+        EncapsulationPart::C2(index) => Location {
+            kind,
+            part: 5,
+            index,
+        },
+    }
+}
+
+fn in_encapsulation(c: EncapsulationRecord) -> Location
+    ensures { λ l. ⌜ l ≡ inEncapsulation c ⌝ }
+{
+    match c {
+        EncapsulationRecord::SealedEntry(p) => in_encapsulation_part(4, p),
+        EncapsulationRecord::Encapsulation(p) => in_encapsulation_part(5, p),
+    }
+}
+
+fn locate_refusal(r: Refusal) -> Location
+    ensures { λ l. ⌜ l ≡ refusalLocation r ⌝ }
+{
+    match r {
+        Refusal::KeyOutOfRange(k) => in_key(k),
+        Refusal::EncapsulationOutOfRange(c) => in_encapsulation(c),
+        _ => Location {
+            kind: 0,
+            part: 0,
+            index: 0,
+        },
+    }
+}
+
+// The place that an answer names.
+pub fn locate(a: Answer) -> Location
+    ensures { λ l. ⌜ l ≡ location a ⌝ }
+{
+    match a {
+        Answer::Done => Location {
+            kind: 0,
+            part: 0,
+            index: 0,
+        },
+        Answer::Refused(r) => locate_refusal(r),
+    }
+}
+
+// ---- both as one number, the answer of an export
+
+pub fn code(a: Answer) -> u32
+    ensures { λ n. ⌜ n ≡ code a ⌝ }
+{
+    let l = locate(a);
+    number(a) + 256 * l.part + 4096 * l.kind + 65536 * ((l.index % 4096) as u32)
 }
 
 // ---- joining them
