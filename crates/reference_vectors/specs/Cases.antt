@@ -6,11 +6,12 @@ use lib.Dec.{eqb}
 use lib.ListN.{length, getD, take}
 use Rattle.modq.specs.Modulus.{q}
 use Rattle.sampling.specs.Noise.{ternaryNoise}
+use Rattle.desk_opening.specs.Input.{deskAnswer}
 use Rattle.desk_line.specs.Line.{deskLine}
 use Rattle.vectors.specs.declared.Verdict.{Verdict}
 use Rattle.vectors.specs.Fields.{word32, field, hasField}
 use Rattle.vectors.specs.Answers.{same?, verdictOf}
-use Rattle.case_outputs.specs.Outputs.{output}
+use Rattle.case_outputs.specs.Outputs.{output, answerTold?}
 use Rattle.key_cases.specs.KeyCases.{checkAgrees?, keygenAgrees?}
 use Rattle.call_cases.specs.declared.Call.{Call}
 use Rattle.call_cases.specs.CallCases.{sizeField, callAgrees?}
@@ -40,8 +41,12 @@ noiseAgrees? text = eqb (word32 (field 1 text)) 0 && eqb (getD (ternaryNoise (fi
 abbrev pub withoutFeed : List ℕ → List ℕ
 withoutFeed line = take (length line - 1) line
 
+abbrev pub lineAgrees? : List ℕ → Bool
+lineAgrees? text = same? (withoutFeed (deskLine (field 0 text))) (field 3 text)
+
+-- number, location and line; the line has no location
 abbrev pub deskAgrees? : List ℕ → Bool
-deskAgrees? text = same? (withoutFeed (deskLine (field 0 text))) (field 3 text)
+deskAgrees? text = answerTold? (deskAnswer (field 0 text)) (word32 (field 1 text)) (field 2 text) && lineAgrees? text
 
 abbrev pub agrees? : Kind → List ℕ → Bool
 agrees? CheckSecretKey text = checkAgrees? text
