@@ -1,7 +1,7 @@
 -- Laws of answers: what a chain of checks says.
 use mathlib.Core.Path.{_≡_, refl, sym, ap}
 use mathlib.Core.Bool.{Bool, true, false, true≢false, false≢true}
-use mathlib.Core.Logic.{_↔_}
+use mathlib.Core.Logic.{_↔_, _⊎_, inl, inr, ⊎-elim}
 use mathlib.Core.List.{List}
 use Prim.Native.Nat.{ℕ, _<_}
 use native.Mathlib.Omega.{arith}
@@ -10,7 +10,9 @@ use Rattle.answers.specs.declared.Refusal.the-variants.{WrongLength, Wro
 use Rattle.answers.specs.declared.Refusal.the-variants.{NotInvertible, KeyMismatch, StreamExhausted, DecapsulationFailure, TagMismatch, EncapsulationOutOfRange}
 use Rattle.answers.specs.declared.Answer.{Answer}
 use Rattle.answers.specs.declared.Answer.the-variants.{Done, Refused}
+use Rattle.answers.specs.declared.Location.{Location}
 use Rattle.answers.specs.Answers.{refusalNumber, number, unless, andThen, onDone}
+use Rattle.answers.specs.Locations.{Names}
 
 -- ---- 0 is Done
 
@@ -99,6 +101,27 @@ unless-refuses false r = (λ e. refl, λ p. refl)
 pub then-refuses : {n : ℕ} (a : Answer) {b : Answer} → 0 < n → Never n b → (number (andThen a b) ≡ n) ↔ (number a ≡ n)
 then-refuses Done some rest = (λ e. absurd (rest .never e), λ e. absurd (omega arith))
 then-refuses (Refused r) some rest = (λ e. e, λ e. e)
+
+-- ---- a chain of checks says a number and names a word
+
+pub unless-names : (n : ℕ) (l : Location) (t : Bool) (r : Refusal) (a : Answer) → ¬ (refusalNumber r ≡ n)
+    → Names n l (unless t r a) ↔ ((t ≡ true) × Names n l a)
+unless-names n l true r a other = (λ e. (refl, e), λ (p, e). e)
+unless-names n l false r a other = (λ e. absurd (other (e .0)), λ (p, e). absurd (false≢true p))
+
+pub then-names : {n : ℕ} {l : Location} {a : Answer} (b : Answer) → Never n a → Names n l (andThen a b) ↔ ((a ≡ Done) × Names n l b)
+then-names {a = Done} b first = (λ e. (refl, e), λ (p, e). e)
+then-names {a = Refused r} b first = (λ e. absurd (first .never (e .0)), λ (p, e). absurd (not-done p))
+
+-- this check, and none of those that follow
+pub names-first : {n : ℕ} {l : Location} (a : Answer) {b : Answer} → 0 < n → Never n b → Names n l (andThen a b) ↔ Names n l a
+names-first Done some rest = (λ e. absurd (rest .never (e .0)), λ (e, p). absurd (omega arith))
+names-first (Refused r) some rest = (λ e. e, λ e. e)
+
+-- this check, or where it passes the one that follows
+pub names-either : {n : ℕ} {l : Location} (a b : Answer) → 0 < n → Names n l (andThen a b) ↔ (Names n l a ⊎ ((a ≡ Done) × Names n l b))
+names-either Done b some = (λ e. inr (refl, e), ⊎-elim (λ (e, p). absurd (omega arith)) (λ (p, e). e))
+names-either (Refused r) b some = (λ e. inl e, ⊎-elim (λ e. e) (λ (p, e). absurd (not-done p)))
 
 -- ---- outputs
 

@@ -19,7 +19,7 @@ use Rattle.answers.specs.declared.Answer.the-variants.{Done, Refused}
 use Rattle.answers.specs.declared.Location.{Location}
 use Rattle.answers.specs.Answers.{refusalNumber, number}
 use Rattle.answers.specs.Locations.{at, nowhere, inKeyPart, inKey, inEncapsulationPart, inEncapsulation, refusalLocation, location, pack, code, codeNumber, codeLocation}
-use Rattle.answers.proofs.AnswerLaws.{number-done}
+use Rattle.answers.proofs.AnswerLaws.{number-done, Never}
 
 -- ---- a field's value fits its bits
 
@@ -101,9 +101,33 @@ code-location a h =
     ap₃ f e1 e2 e3 = rw (e1, e2, e3) refl
 
 -- the code of an answer that names no word is its number
-pub plain-code : (a : Answer) → location a ≡ nowhere → code a ≡ number a
+plain-code : (a : Answer) → location a ≡ nowhere → code a ≡ number a
 plain-code a e = ap (pack (number a)) e ∙ omega arith
 
 -- 0 exactly under Done
 pub code-done : (a : Answer) → (code a ≡ 0) ↔ (a ≡ Done)
 code-done a = (λ e. number-done a .0 (omega (arith, e)), λ e. ap code e)
+
+-- ---- which answers name a word
+
+-- those with the numbers 4 and 11
+pub names-none : (a : Answer) → ¬ (number a ≡ 4) → ¬ (number a ≡ 11) → location a ≡ nowhere
+names-none Done no-key no-encapsulation = refl
+names-none (Refused r) no-key no-encapsulation = of r no-key no-encapsulation
+  where
+    of : (r : Refusal) → ¬ (refusalNumber r ≡ 4) → ¬ (refusalNumber r ≡ 11) → refusalLocation r ≡ nowhere
+    of WrongLength no-key no-encapsulation = refl
+    of WrongMark no-key no-encapsulation = refl
+    of WrongVersion no-key no-encapsulation = refl
+    of (KeyOutOfRange k) no-key no-encapsulation = absurd (no-key refl)
+    of InvalidCode no-key no-encapsulation = refl
+    of NotInvertible no-key no-encapsulation = refl
+    of KeyMismatch no-key no-encapsulation = refl
+    of StreamExhausted no-key no-encapsulation = refl
+    of DecapsulationFailure no-key no-encapsulation = refl
+    of TagMismatch no-key no-encapsulation = refl
+    of (EncapsulationOutOfRange c) no-key no-encapsulation = absurd (no-encapsulation refl)
+
+-- the code of any other answer is its number
+pub code-is-number : (a : Answer) → Never 4 a → Never 11 a → code a ≡ number a
+code-is-number a no-key no-encapsulation = plain-code a (names-none a (no-key .never) (no-encapsulation .never))

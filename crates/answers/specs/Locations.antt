@@ -1,6 +1,5 @@
 -- Where the first word of q or more stands (document 02, No. 3), and the code that an export answers: number and location in one.
--- include/polka.h has the codes of records and parts by name.
-use mathlib.Core.List.{List}
+use mathlib.Core.Path.{_≡_}
 use Prim.Native.Nat.{ℕ, _+_, _*_, _/_, _%_}
 use Rattle.answers.specs.declared.KeyPart.{KeyPart}
 use Rattle.answers.specs.declared.KeyPart.the-variants.{A, B}
@@ -17,8 +16,38 @@ use Rattle.answers.specs.declared.Answer.the-variants.{Done, Refused}
 use Rattle.answers.specs.declared.Location.{Location}
 use Rattle.answers.specs.Answers.{number}
 
+-- ---- codes of records and of parts
+
+abbrev pub publicKey : ℕ
+publicKey = 1
+
+abbrev pub seededPublicKey : ℕ
+seededPublicKey = 2
+
+abbrev pub secretKey : ℕ
+secretKey = 3
+
+abbrev pub sealedEntry : ℕ
+sealedEntry = 4
+
+abbrev pub encapsulation : ℕ
+encapsulation = 5
+
+abbrev pub aPart : ℕ
+aPart = 1
+
+abbrev pub bPart : ℕ
+bPart = 2
+
+abbrev pub c1Part : ℕ
+c1Part = 4
+
+abbrev pub c2Part : ℕ
+c2Part = 5
+
 -- ---- the location
 
+-- word i of part p of a record of kind r
 abbrev pub at : (r p i : ℕ) → Location
 at r p i = record { kind = r; part = p; index = i }
 
@@ -27,21 +56,21 @@ abbrev pub nowhere : Location
 nowhere = at 0 0 0
 
 abbrev pub inKeyPart : (r : ℕ) → KeyPart → Location
-inKeyPart r (A i) = at r 1 i
-inKeyPart r (B i) = at r 2 i
+inKeyPart r (A i) = at r aPart i
+inKeyPart r (B i) = at r bPart i
 
 abbrev pub inKey : KeyRecord → Location
-inKey (PublicKey p) = inKeyPart 1 p
-inKey (SeededPublicKey p) = inKeyPart 2 p
-inKey (SecretKey p) = inKeyPart 3 p
+inKey (PublicKey p) = inKeyPart publicKey p
+inKey (SeededPublicKey p) = inKeyPart seededPublicKey p
+inKey (SecretKey p) = inKeyPart secretKey p
 
 abbrev pub inEncapsulationPart : (r : ℕ) → EncapsulationPart → Location
-inEncapsulationPart r (C1 i) = at r 4 i
-inEncapsulationPart r (C2 i) = at r 5 i
+inEncapsulationPart r (C1 i) = at r c1Part i
+inEncapsulationPart r (C2 i) = at r c2Part i
 
 abbrev pub inEncapsulation : EncapsulationRecord → Location
-inEncapsulation (SealedEntry p) = inEncapsulationPart 4 p
-inEncapsulation (Encapsulation p) = inEncapsulationPart 5 p
+inEncapsulation (SealedEntry p) = inEncapsulationPart sealedEntry p
+inEncapsulation (Encapsulation p) = inEncapsulationPart encapsulation p
 
 -- under 4 and 11
 abbrev pub refusalLocation : Refusal → Location
@@ -60,6 +89,10 @@ refusalLocation TagMismatch = nowhere
 abbrev pub location : Answer → Location
 location Done = nowhere
 location (Refused r) = refusalLocation r
+
+-- the answer says the number n and names the location l
+abbrev pub Names : (n : ℕ) (l : Location) → Answer → Type 0
+Names n l a = (number a ≡ n) × (location a ≡ l)
 
 -- ---- the code
 

@@ -3,6 +3,7 @@ use mathlib.Core.Path.{_≡_, refl, sym, ap, _∙_}
 use mathlib.Core.Logic.{_↔_, Iff·trans}
 use mathlib.Core.List.{List}
 use Prim.Native.Nat.{ℕ}
+use native.Mathlib.Omega.{arith}
 use lib.ListN.{length}
 use Rattle.exactness.specs.Promises.{Exact}
 use Rattle.ring.specs.Ring.{Element}
@@ -12,6 +13,7 @@ use Rattle.scheme.proofs.Steps.{triple-same}
 use Rattle.answers.specs.declared.Refusal.the-variants.{WrongLength}
 use Rattle.answers.specs.declared.Answer.{Answer}
 use Rattle.answers.specs.Answers.{number, onDone}
+use Rattle.answers.specs.Locations.{code}
 use Rattle.triples.specs.Triple.{tripleBytes}
 use Rattle.records.specs.Layout.{tripleLength}
 use Rattle.records.specs.Records.{firstOf, secondOf, c1Of, c2Of}
@@ -23,7 +25,9 @@ use Rattle.records.specs.WellFormed.{WellFormedEncapsulation}
 use Rattle.triples.specs.WellFormed.{WellFormedTriple}
 use Rattle.calls.specs.Promises.{Accepted, Ternaries, Decapsulated, DecapsulateExact}
 use Rattle.answers.proofs.AnswerLaws.{unless-passed, then-passed}
+use Rattle.answers.proofs.CodeLaws.{code-is-number}
 use Rattle.records.proofs.RecordLaws.{encapsulation-done}
+use Rattle.calls.proofs.Behind.{outcome-never}
 use Rattle.triples.proofs.TripleLaws.{triple-done}
 use Rattle.triples.proofs.WrittenTriples.{triple-r, triple-e1, triple-e2}
 use Rattle.calls.proofs.Lengths.{decapsulate-fits}
@@ -106,5 +110,17 @@ module _ (k c before : List ℕ) (accepted : Accepted k) (wc : WellFormedEncapsu
             (ap number (decides other w ∙ ap outcomeAnswer same), writes other w ∙ ap (λ (o : Outcome). after o before) same),
       )
 
+  -- no word is named, so the code is the number
+  pub plain : (d : List ℕ) → WellFormedTriple d → code (decapsulateAnswer k c d (length before)) ≡ number (decapsulateAnswer k c d (length before))
+  plain d wd =
+      let never-4 = outcome-never (omega arith) (λ (f : 9 ≡ 4). omega arith) (with-dummy d) in
+      let never-11 = outcome-never (omega arith) (λ (f : 9 ≡ 11). omega arith) (with-dummy d) in
+      rw (decides d wd) (code-is-number (outcomeAnswer (with-dummy d)) never-4 never-11)
+
 pub decapsulate-exact : (k c d before : List ℕ) → DecapsulateExact k c d before (number (decapsulateAnswer k c d (length before))) (decapsulateOut k c d before)
 decapsulate-exact k c d before accepted wc wd room = exactly k c before accepted wc room d wd
+
+pub decapsulate-exact-code : (k c d before : List ℕ)
+    → DecapsulateExact k c d before (code (decapsulateAnswer k c d (length before))) (decapsulateOut k c d before)
+decapsulate-exact-code k c d before accepted wc wd room =
+    rw (plain k c before accepted wc room d wd) (decapsulate-exact k c d before accepted wc wd room)

@@ -10,8 +10,10 @@ use lib.ListN.{length}
 use borrow.Author.Tests.{eqb-true, eq-eqb}
 use Rattle.answers.specs.declared.Refusal.the-variants.{WrongLength}
 use Rattle.answers.specs.declared.Answer.{Answer}
+use Rattle.answers.specs.declared.Location.{Location}
 use Rattle.answers.specs.Answers.{number, unless}
-use Rattle.answers.proofs.AnswerLaws.{unless-says}
+use Rattle.answers.specs.Locations.{Names}
+use Rattle.answers.proofs.AnswerLaws.{unless-says, unless-names}
 use Rattle.public_keys.specs.PublicKeys.{publicLength?}
 
 -- ---- several tests of lengths at once
@@ -78,6 +80,11 @@ open-fits k e noise room = four-fit (eqb (length k) 4357) (one-fits (length k) 4
 pub says-after-lengths : {fit : Bool} {F G : Type 0} (n : ℕ) (a : Answer) → 1 < n → (fit ≡ true) ↔ F → (number a ≡ n) ↔ G
     → (number (unless fit WrongLength a) ≡ n) ↔ (F × G)
 says-after-lengths {fit} n a h f g = Iff·trans (unless-says n fit WrongLength a (λ e. omega arith)) (Iff·and f g)
+
+-- a number and a word
+pub names-after-lengths : {fit : Bool} {F G : Type 0} (n : ℕ) (l : Location) (a : Answer) → 1 < n → (fit ≡ true) ↔ F → Names n l a ↔ G
+    → Names n l (unless fit WrongLength a) ↔ (F × G)
+names-after-lengths {fit} n l a h f g = Iff·trans (unless-names n l fit WrongLength a (λ e. omega arith)) (Iff·and f g)
 
 -- a public key's length and what its checks say, R and N, among the lengths of the other buffers
 pub of-encapsulate : {Size Says R N H1 H2 : Type 0} → (Size × Says) ↔ (R × N) → ((Size × H1 × H2) × Says) ↔ (R × H1 × H2 × N)

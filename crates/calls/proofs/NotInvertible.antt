@@ -7,25 +7,23 @@ use Prim.Native.Nat.{ℕ}
 use native.Mathlib.Omega.{arith}
 use lib.ListN.{length}
 use Rattle.ring.specs.Ring.{Invertible}
-use Rattle.scheme.specs.Scheme.{Outcome, found, failed}
 use Rattle.encoding.specs.Codes.{firstInvalidCode}
-use Rattle.derivation.specs.Derivation.{genuine?}
-use Rattle.answers.specs.declared.Refusal.the-variants.{WrongLength, TagMismatch}
+use Rattle.answers.specs.declared.Refusal.the-variants.{WrongLength}
 use Rattle.answers.specs.declared.Answer.{Answer}
 use Rattle.answers.specs.Answers.{number, unless, andThen}
 use Rattle.records.specs.Records.{firstOf, secondOf, codesPart, bodyPart, tagPart, c1Of, c2Of}
 use Rattle.seeds.specs.Seeds.{seedStream}
 use Rattle.public_keys.specs.PublicKeys.{publicAnswer}
 use Rattle.keys.specs.Keys.{elementsOf, secretAnswer, noiseTriple}
-use Rattle.calls.specs.Calls.{checkAnswer, keygenAnswer, seededKeygenAnswer, outcome, outcomeAnswer, openedAnswer}
-use Rattle.records.specs.Layout.{sealedEntryMark, secretKeyMark}
+use Rattle.calls.specs.Calls.{checkAnswer, keygenAnswer, seededKeygenAnswer, outcome}
+use Rattle.records.specs.Layout.{secretKeyMark}
 use Rattle.triples.specs.Triple.{tripleOf}
 use Rattle.calls.specs.Calls.{encapsulateAnswer, decapsulateAnswer, sealAnswer, openAnswer}
 use Rattle.records.specs.WellFormed.{WellFormedFront, WellFormedKey}
 use Rattle.calls.specs.Promises.{NotInvertibleExact}
-use Rattle.answers.proofs.AnswerLaws.{Never, unless-never, done-never, then-never, then-refuses}
-use Rattle.records.proofs.RecordLaws.{record-never, encapsulation-never}
+use Rattle.answers.proofs.AnswerLaws.{Never, then-refuses}
 use Rattle.triples.proofs.TripleLaws.{triple-never}
+use Rattle.calls.proofs.Behind.{encapsulation-rest-never, entry-rest-never}
 use Rattle.calls.proofs.Lengths.{one-fits, keygen-fits, seeded-keygen-fits, encapsulate-fits, decapsulate-fits, seal-fits, open-fits, says-after-lengths, of-encapsulate, of-seal}
 use Rattle.public_keys.proofs.PublicLaws.{public-refused}
 use Rattle.keys.proofs.KeyLaws.{generated-refused, secret-refused}
@@ -36,17 +34,7 @@ use Rattle.keys.proofs.KeyLaws.{generated-refused, secret-refused}
 six-after-lengths : {fit : Bool} {F G : Type 0} (a : Answer) → (fit ≡ true) ↔ F → (number a ≡ 6) ↔ G → (number (unless fit WrongLength a) ≡ 6) ↔ (F × G)
 six-after-lengths a = says-after-lengths 6 a (omega arith)
 
--- 9 and 10 are no 6
-outcome-never : (o : Outcome) → Never 6 (outcomeAnswer o)
-outcome-never (found t) = done-never (omega arith)
-outcome-never failed = record { never = λ e. omega arith }
-
-opened-never : (o : Outcome) (body tag : List ℕ) → Never 6 (openedAnswer o body tag)
-opened-never (found t) body tag =
-    unless-never (genuine? (t .r) (t .e1) (t .e2) body tag) TagMismatch (λ (e : 10 ≡ 6). omega arith) (done-never (omega arith))
-opened-never failed body tag = record { never = λ e. omega arith }
-
--- so the key alone says it
+-- what stands behind a key never says 6, so the key alone does
 by-key : {G : Type 0} (key : Answer) {rest : Answer} → Never 6 rest → (number key ≡ 6) ↔ G → (number (andThen key rest) ≡ 6) ↔ G
 by-key key h g = Iff·trans (then-refuses key (omega arith) h) g
 
@@ -81,14 +69,14 @@ not-invertible-exact = record {
   encapsulate = λ k t room.
       Iff·trans
       (six-after-lengths _ (encapsulate-fits k t room)
-      (by-key (publicAnswer k) (triple-never (omega arith) t) Iff·rfl))
+      (by-key (publicAnswer k) (triple-never (omega arith) (λ e. omega arith) t) Iff·rfl))
       (of-encapsulate (public-refused k));
   decapsulate = λ k c d room.
       Iff·trans
       (six-after-lengths _ (decapsulate-fits k c d room)
       (by-key (secretAnswer k)
-      (then-never (encapsulation-never (omega arith) c)
-      (then-never (triple-never (omega arith) d) (outcome-never (outcome (elementsOf k) (tripleOf d) (c1Of c) (c2Of c)))))
+      (encapsulation-rest-never (omega arith) (λ e. omega arith) (λ e. omega arith) (λ e. omega arith) c d
+      (outcome (elementsOf k) (tripleOf d) (c1Of c) (c2Of c)))
       (secret-refused k)))
       (opening k);
   seal = λ k noise entry room.
@@ -97,8 +85,8 @@ not-invertible-exact = record {
       Iff·trans
       (six-after-lengths _ (open-fits k e noise room)
       (by-key (secretAnswer k)
-      (then-never (record-never (omega arith) sealedEntryMark 1 e)
-      (opened-never (outcome (elementsOf k) (noiseTriple noise) (firstOf e) (secondOf e)) (bodyPart e) (tagPart e)))
+      (entry-rest-never (omega arith) (λ e. omega arith) (omega arith) (λ e. omega arith) (λ e. omega arith) e
+      (outcome (elementsOf k) (noiseTriple noise) (firstOf e) (secondOf e)) (bodyPart e) (tagPart e))
       (secret-refused k)))
       (opening k);
 }

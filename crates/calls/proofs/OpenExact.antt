@@ -14,14 +14,17 @@ use Rattle.answers.specs.declared.Refusal.the-variants.{WrongLength}
 use Rattle.answers.specs.declared.Answer.{Answer}
 use Rattle.answers.specs.declared.Answer.the-variants.{Done}
 use Rattle.answers.specs.Answers.{number, onDone}
-use Rattle.records.specs.Layout.{sealedEntryMark, blockLength}
+use Rattle.answers.specs.Locations.{code}
+use Rattle.records.specs.Layout.{blockLength}
 use Rattle.records.specs.Records.{firstOf, secondOf, bodyPart, tagPart}
 use Rattle.keys.specs.Keys.{KeyElements, elementsOf, tripleNoiseLength, noiseTriple}
 use Rattle.calls.specs.Calls.{outcome, openedAnswer, openedEntry, openAnswer, openOut}
 use Rattle.records.specs.WellFormed.{WellFormedEntry}
 use Rattle.calls.specs.Promises.{Accepted, Ternaries, Opened, OpenExact}
 use Rattle.answers.proofs.AnswerLaws.{unless-passed, then-passed, on-done, on-refusal}
-use Rattle.records.proofs.RecordLaws.{record-done}
+use Rattle.answers.proofs.CodeLaws.{code-is-number}
+use Rattle.records.proofs.RecordLaws.{sealed-entry-done}
+use Rattle.calls.proofs.Behind.{opened-never}
 use Rattle.calls.proofs.Lengths.{open-fits}
 use Rattle.calls.proofs.CheckExact.{accepted-iff, accepted-done}
 use Rattle.calls.proofs.Outcomes.{noise-ternary, Sound, accepted-sound, outcome-exact, outcome-free, right-tag, wrong-tag, found-opened, failed-opened}
@@ -84,7 +87,7 @@ module _ (k e before : List ℕ) (accepted : Accepted k) (we : WellFormedEntry e
       unless-passed WrongLength _
       (open-fits k e noise (length before) .1 (accepted-iff k .0 accepted .0 .size, we .size, size, room))
       ∙ then-passed _ (accepted-done k accepted)
-      ∙ then-passed _ (record-done sealedEntryMark 1 e .1 (we .front))
+      ∙ then-passed _ (sealed-entry-done e .1 (we .front))
 
   writes : (noise : List ℕ) → length noise ≡ tripleNoiseLength → openOut k e noise before ≡ writing (with-dummy noise)
   unfolding openOut
@@ -105,5 +108,16 @@ module _ (k e before : List ℕ) (accepted : Accepted k) (we : WellFormedEntry e
             (ap number (decides other h ∙ ap says same), writes other h ∙ ap writing same),
       )
 
+  -- no word is named, so the code is the number
+  pub plain : (noise : List ℕ) → length noise ≡ tripleNoiseLength → code (openAnswer k e noise (length before)) ≡ number (openAnswer k e noise (length before))
+  plain noise size =
+      let never-4 = opened-never (omega arith) (λ (f : 9 ≡ 4). omega arith) (λ (f : 10 ≡ 4). omega arith) (with-dummy noise) (bodyPart e) (tagPart e) in
+      let never-11 = opened-never (omega arith) (λ (f : 9 ≡ 11). omega arith) (λ (f : 10 ≡ 11). omega arith) (with-dummy noise) (bodyPart e) (tagPart e) in
+      rw (decides noise size) (code-is-number (says (with-dummy noise)) never-4 never-11)
+
 pub open-exact : (k e noise before : List ℕ) → OpenExact k e noise before (number (openAnswer k e noise (length before))) (openOut k e noise before)
 open-exact k e noise before accepted we size room = exactly k e before accepted we room noise size
+
+pub open-exact-code : (k e noise before : List ℕ) → OpenExact k e noise before (code (openAnswer k e noise (length before))) (openOut k e noise before)
+open-exact-code k e noise before accepted we size room =
+    rw (plain k e before accepted we room noise size) (open-exact k e noise before accepted we size room)

@@ -25,7 +25,7 @@ stream-exhausted-exact = record {
       Iff·trans (says-after-lengths 8 _ (omega arith) (seeded-keygen-fits seed s e public secret) (generated-exhausted (seedStream seed) s e)) of-keygen;
   encapsulate = λ k t room.
       Iff·trans
-      (says-after-lengths 8 _ (omega arith) (encapsulate-fits k t room) (then-refuses (publicAnswer k) (omega arith) (triple-never (omega arith) t)))
+      (says-after-lengths 8 _ (omega arith) (encapsulate-fits k t room) (then-refuses (publicAnswer k) (omega arith) (triple-never (omega arith) (λ e. omega arith) t)))
       (of-encapsulate (public-exhausted k));
   seal = λ k noise entry room.
       Iff·trans (says-after-lengths 8 (publicAnswer k) (omega arith) (seal-fits k noise entry room) Iff·rfl) (of-seal (public-exhausted k));

@@ -11,13 +11,12 @@ use Rattle.answers.specs.declared.Refusal.the-variants.{WrongLength}
 use Rattle.answers.specs.declared.Answer.{Answer}
 use Rattle.answers.specs.declared.Answer.the-variants.{Done}
 use Rattle.answers.specs.Answers.{unless}
-use Rattle.records.specs.Records.{firstOf, secondOf, bodyPart, tagPart, recordAnswer, c1Of, c2Of, encapsulationAnswer}
+use Rattle.records.specs.Records.{firstOf, secondOf, bodyPart, tagPart, sealedEntryAnswer, c1Of, c2Of, encapsulationAnswer}
 use Rattle.triples.specs.Triple.{tripleAnswer}
 use Rattle.seeds.specs.Seeds.{seedStream}
 use Rattle.public_keys.specs.PublicKeys.{publicLength?, publicAnswer}
 use Rattle.keys.specs.Keys.{elementsOf, secretAnswer, keygenB, noiseTriple}
 use Rattle.calls.specs.Calls.{checkAnswer, keygenAnswer, seededKeygenAnswer, outcome, outcomeAnswer, openedAnswer}
-use Rattle.records.specs.Layout.{sealedEntryMark}
 use Rattle.triples.specs.Triple.{tripleOf}
 use Rattle.calls.specs.Calls.{encapsulateAnswer, decapsulateAnswer, sealAnswer, openAnswer}
 use Rattle.answers.proofs.AnswerLaws.{unless-done, then-done}
@@ -80,10 +79,10 @@ pub open-done : (k e noise : List ℕ) (room : ℕ)
     → (openAnswer k e noise room ≡ Done)
     ↔ (((length k ≡ 4357) × (length e ≡ 4133) × (length noise ≡ 1536) × (room ≡ 16))
     × ((secretAnswer k ≡ Done)
-    × (recordAnswer sealedEntryMark 1 e ≡ Done)
+    × (sealedEntryAnswer e ≡ Done)
     × (openedAnswer (outcome (elementsOf k) (noiseTriple noise) (firstOf e) (secondOf e)) (bodyPart e) (tagPart e) ≡ Done)))
 unfolding openAnswer
 open-done k e noise room =
     done-after-lengths _ (open-fits k e noise room)
-    (Iff·trans (Iff·trans (then-done (secretAnswer k) _) (Iff·and Iff·rfl (then-done (recordAnswer sealedEntryMark 1 e) _)))
+    (Iff·trans (Iff·trans (then-done (secretAnswer k) _) (Iff·and Iff·rfl (then-done (sealedEntryAnswer e) _)))
     (λ (key, (front, opened)). (key, front, opened), λ (key, front, opened). (key, (front, opened))))

@@ -1,5 +1,5 @@
 -- What each public call answers and what its lent outputs hold afterwards, over the lent bytes (document 01, "Bytes" and "What the desk
--- says"; document 02, No. 2). Every definition holds for buffers of all lengths. Under any answer but Done an output is as it came.
+-- says"; document 02, No. 2 and 3). Every definition holds for buffers of all lengths. Under any answer but Done an output is as it came.
 -- `room`, and `public` and `secret` where they are numbers, are the lengths of outputs.
 use mathlib.Core.Bool.{_&&_}
 use mathlib.Core.List.{List}
@@ -16,8 +16,8 @@ use Rattle.answers.specs.declared.Refusal.the-variants as Refusal
 use Rattle.answers.specs.declared.Answer.{Answer}
 use Rattle.answers.specs.declared.Answer.the-variants.{Done, Refused}
 use Rattle.answers.specs.Answers.{unless, andThen, onDone}
-use Rattle.records.specs.Layout.{sealedEntryMark, publicKeyLength, seedLength, seededKeyLength, secretKeyLength, sealedEntryLength, encapsulationLength, tripleLength, blockLength}
-use Rattle.records.specs.Records.{firstOf, secondOf, bodyPart, tagPart, recordAnswer, publicKeyBytes, secretKeyBytes, seededKeyBytes, sealedEntryBytes}
+use Rattle.records.specs.Layout.{publicKeyLength, seedLength, seededKeyLength, secretKeyLength, sealedEntryLength, encapsulationLength, tripleLength, blockLength}
+use Rattle.records.specs.Records.{firstOf, secondOf, bodyPart, tagPart, sealedEntryAnswer, publicKeyBytes, secretKeyBytes, seededKeyBytes, sealedEntryBytes}
 use Rattle.records.specs.Records.{c1Of, c2Of, encapsulationAnswer, encapsulationBytes}
 use Rattle.triples.specs.Triple.{tripleOf, tripleAnswer, tripleBytes}
 use Rattle.seeds.specs.Seeds.{seedStream}
@@ -147,7 +147,7 @@ openAnswer key sealed noise room =
     unless (eqb (length key) secretKeyLength && eqb (length sealed) sealedEntryLength && eqb (length noise) tripleNoiseLength && eqb room blockLength)
     Refusal.WrongLength
     (andThen (secretAnswer key)
-    (andThen (recordAnswer sealedEntryMark 1 sealed)
+    (andThen (sealedEntryAnswer sealed)
     (openedAnswer (outcome (elementsOf key) (noiseTriple noise) (firstOf sealed) (secondOf sealed)) (bodyPart sealed) (tagPart sealed))))
 
 unfoldable pub openOut : (key sealed noise out : List ℕ) → List ℕ

@@ -10,7 +10,7 @@ use lib.ListN.{length, getD, take, length-append, length-take, List·getD-eq-def
 use lib.Seq.{getD-take, getD-append-add, take-at}
 use borrow.Author.Tests.{lt-ltb, ltb-true, ltb-false}
 use Rattle.lists.proofs.Tables.{length-table, getD-table, table-same, table-append}
-use Rattle.lists.proofs.Scan.{first-none, first-passes, first-within, first-fails}
+use Rattle.lists.proofs.Scan.{before-first, first-none, first-passes, first-within, first-fails}
 use Rattle.algebra.specs.Numbers.{Below}
 use Rattle.algebra.specs.Numbers as N
 use Rattle.algebra.proofs.Numbers.{below-by}
@@ -99,6 +99,19 @@ module _ (q : ℕ) where
   pub from-found : (a : List ℕ) → firstFrom q a < length a → q ≤ getD a (firstFrom q a) 0
   unfolding firstFrom
   from-found a h = ltb-false _ q (first-fails (λ w. ltb w q) a h)
+
+  pub from-before : (a : List ℕ) (k : ℕ) → k < firstFrom q a → getD a k 0 < q
+  unfolding firstFrom
+  from-before a k h = ltb-true (getD a k 0) q (before-first (λ w. ltb w q) a k h)
+
+  -- no other word is the first
+  pub from-unique : (a : List ℕ) (i : ℕ) → i < length a → ((k : ℕ) → k < i → getD a k 0 < q) → q ≤ getD a i 0 → firstFrom q a ≡ i
+  from-unique a i h below here = by (decLt (firstFrom q a) i) (decLt i (firstFrom q a))
+    where
+      by : Dec (firstFrom q a < i) → Dec (i < firstFrom q a) → firstFrom q a ≡ i
+      by (yes l) d = absurd (omega (arith, below (firstFrom q a) l, from-found a (omega arith)))
+      by (no l) (yes m) = absurd (omega (arith, from-before a i m))
+      by (no l) (no m) = omega arith
 
   below-in : (a : List ℕ) → Below q a → (k : ℕ) → k < length a → getD a k 0 < q
   below-in [] b k h = absurd (omega arith)

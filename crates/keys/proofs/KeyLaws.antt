@@ -1,25 +1,32 @@
--- The checks of a secret key and of key generation: when they say Done, when 6, and when 8.
+-- The checks of a secret key and of key generation: when they say Done, when 6, when 8, and which word 4 names.
 use mathlib.Core.Path.{_≡_, refl}
 use mathlib.Core.Bool.{Bool, true, false, true≢false, false≢true}
-use mathlib.Core.Logic.{_↔_, Iff·trans, Iff·and}
+use mathlib.Core.Logic.{_↔_, _⊎_, inl, inr, Iff·trans, Iff·and}
 use mathlib.Core.List.{List}
-use Prim.Native.Nat.{ℕ}
+use Prim.Native.Nat.{ℕ, _<_}
 use native.Mathlib.Omega.{arith}
 use lib.ListN.{length}
 use Rattle.ring.specs.Ring.{Invertible}
-use Rattle.scheme.specs.Answers.{verdict}
+use Rattle.scheme.specs.Answers.{verdict, keyCheck}
+use Rattle.scheme.specs.declared.KeyCheck.{KeyCheck}
+use Rattle.scheme.specs.declared.KeyCheck.the-variants.{Sound, NotInvertible, KeyMismatch}
 use Rattle.scheme.proofs.Keys.{key-check}
 use Rattle.encoding.specs.Codes.{firstInvalidCode}
+use Rattle.encoding.specs.Header.{hasMark, versionOf}
 use Rattle.sampling.specs.Stream.{taken}
 use Rattle.answers.specs.declared.Answer.the-variants.{Done}
+use Rattle.answers.specs.declared.Location.{Location}
 use Rattle.answers.specs.Answers.{number}
+use Rattle.answers.specs.Locations.{secretKey, aPart, bPart, Names}
 use Rattle.records.specs.Layout.{secretKeyMark}
-use Rattle.records.specs.Records.{firstOf, secondOf, codesPart, secretOf}
+use Rattle.records.specs.Records.{firstOf, secondOf, codesPart, secretOf, secretFrontAnswer}
 use Rattle.keys.specs.Keys.{verdictAnswer, secretAnswer, keygenB, generatedAnswer}
 use Rattle.records.specs.WellFormed.{WellFormedFront}
+use Rattle.records.specs.Named.{NamedInTwo}
 use Rattle.keys.specs.Keys.{elementsOf, Matches}
-use Rattle.answers.proofs.AnswerLaws.{not-done, then-done, then-says, then-refuses}
-use Rattle.records.proofs.RecordLaws.{record-done, codes-done, record-never, codes-never}
+use Rattle.answers.proofs.AnswerLaws.{Never, not-done, then-done, then-never, then-says, then-refuses, names-first}
+use Rattle.records.proofs.RecordLaws.{secret-front-done, codes-done, secret-front-never, codes-never}
+use Rattle.records.proofs.NamedWords.{secret-front-named}
 use Rattle.public_keys.specs.PublicKeys.{streamAnswer}
 use Rattle.public_keys.proofs.PublicLaws.{inverse-done, none-decided, inverse-refused, inverse-never, stream-done, stream-refused, stream-never}
 
@@ -37,12 +44,12 @@ secret-done k = (
   λ e.
       let (front, behind) = then-done _ _ .0 e in
       let (codes, checked) = then-done _ _ .0 behind in
-      let w : WellFormedFront secretKeyMark 1 k = record-done secretKeyMark 1 k .0 front in
+      let w : WellFormedFront secretKeyMark 1 k = secret-front-done k .0 front in
       let (unit, matches) = key-check (firstOf k) (secondOf k) (secretOf k) (w .second-words) .0 (verdict-done _ _ .0 checked) in
       (w, codes-done (codesPart k) .0 codes, unit, matches),
   λ (w, codes, unit, matches).
       let sound = key-check (firstOf k) (secondOf k) (secretOf k) (w .second-words) .1 (unit, matches) in
-      then-done _ _ .1 (record-done secretKeyMark 1 k .1 w, then-done _ _ .1 (codes-done (codesPart k) .1 codes, verdict-done _ _ .1 sound)),
+      then-done _ _ .1 (secret-front-done k .1 w, then-done _ _ .1 (codes-done (codesPart k) .1 codes, verdict-done _ _ .1 sound)),
 )
 
 verdict-refused : (invertible ternary : Bool) → (number (verdictAnswer (verdict invertible ternary)) ≡ 6) ↔ (invertible ≡ false)
@@ -55,11 +62,39 @@ pub secret-refused : (k : List ℕ)
 unfolding secretAnswer
 secret-refused k =
     Iff·trans
-    (Iff·trans (then-says _ (record-never (omega arith) secretKeyMark 1 k))
-    (Iff·and (record-done secretKeyMark 1 k)
-    (Iff·trans (then-says _ (codes-never (omega arith) (codesPart k)))
+    (Iff·trans (then-says _ (secret-front-never (omega arith) k))
+    (Iff·and (secret-front-done k)
+    (Iff·trans (then-says _ (codes-never (omega arith) (λ e. omega arith) (codesPart k)))
     (Iff·and (codes-done (codesPart k)) (Iff·trans (verdict-refused _ _) (none-decided (secondOf k)))))))
     (λ (w, (codes, none)). (w, codes, none), λ (w, codes, none). (w, (codes, none)))
+
+verdict-never : {k : ℕ} → 7 < k ⊎ ((0 < k) × (k < 6)) → (c : KeyCheck) → Never k (verdictAnswer c)
+verdict-never h c = record { never = λ e. out h c e }
+  where
+    out : {k : ℕ} → 7 < k ⊎ ((0 < k) × (k < 6)) → (c : KeyCheck) → number (verdictAnswer c) ≡ k → ⊥
+    out (inl l) Sound e = omega arith
+    out (inl l) NotInvertible e = omega arith
+    out (inl l) KeyMismatch e = omega arith
+    out (inr (some, l)) Sound e = omega arith
+    out (inr (some, l)) NotInvertible e = omega arith
+    out (inr (some, l)) KeyMismatch e = omega arith
+
+-- the word that 4 names
+pub secret-named : (k : List ℕ) (l : Location)
+    → Names 4 l (secretAnswer k)
+    ↔ ((hasMark secretKeyMark k ≡ true) × (versionOf k ≡ 1) × NamedInTwo secretKey aPart bPart (firstOf k) (secondOf k) l)
+unfolding secretAnswer
+secret-named k l =
+    Iff·trans
+    (names-first (secretFrontAnswer k) (omega arith)
+    (then-never (codes-never (omega arith) (λ e. omega arith) (codesPart k)) (verdict-never (inr (omega arith, omega arith)) (keyCheck (firstOf k) (secondOf k) (secretOf k)))))
+    (secret-front-named k l)
+
+pub secret-never : {number : ℕ} → 7 < number → (k : List ℕ) → Never number (secretAnswer k)
+unfolding secretAnswer
+secret-never h k =
+    then-never (secret-front-never (omega arith) k)
+    (then-never (codes-never (omega arith) (λ e. omega arith) (codesPart k)) (verdict-never (inl h) (keyCheck (firstOf k) (secondOf k) (secretOf k))))
 
 -- ---- key generation
 
@@ -72,8 +107,12 @@ pub generated-refused : (stream s e : List ℕ)
     → (number (generatedAnswer stream s e) ≡ 6) ↔ ((length (taken stream) ≡ 1024) × ¬ (Invertible (keygenB stream s e)))
 unfolding generatedAnswer
 generated-refused stream s e =
-    Iff·trans (then-says _ (stream-never stream)) (Iff·and (stream-done stream) (inverse-refused (keygenB stream s e)))
+    Iff·trans (then-says _ (stream-never (omega arith) (λ e. omega arith) stream)) (Iff·and (stream-done stream) (inverse-refused (keygenB stream s e)))
+
+pub generated-never : {number : ℕ} → 0 < number → ¬ (6 ≡ number) → ¬ (8 ≡ number) → (stream s e : List ℕ) → Never number (generatedAnswer stream s e)
+unfolding generatedAnswer
+generated-never some six eight stream s e = then-never (stream-never some eight stream) (inverse-never some six (keygenB stream s e))
 
 pub generated-exhausted : (stream s e : List ℕ) → (number (generatedAnswer stream s e) ≡ 8) ↔ ¬ (length (taken stream) ≡ 1024)
 unfolding generatedAnswer
-generated-exhausted stream s e = Iff·trans (then-refuses (streamAnswer stream) (omega arith) (inverse-never (keygenB stream s e))) (stream-refused stream)
+generated-exhausted stream s e = Iff·trans (then-refuses (streamAnswer stream) (omega arith) (inverse-never (omega arith) (λ e. omega arith) (keygenB stream s e))) (stream-refused stream)

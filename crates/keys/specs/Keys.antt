@@ -12,8 +12,7 @@ use Rattle.answers.specs.declared.Refusal.the-variants as Refusal
 use Rattle.answers.specs.declared.Answer.{Answer}
 use Rattle.answers.specs.declared.Answer.the-variants.{Done, Refused}
 use Rattle.answers.specs.Answers.{andThen}
-use Rattle.records.specs.Layout.{secretKeyMark}
-use Rattle.records.specs.Records.{part, firstOf, secondOf, codesPart, secretOf, recordAnswer, codesAnswer}
+use Rattle.records.specs.Records.{part, firstOf, secondOf, codesPart, secretOf, secretFrontAnswer, codesAnswer}
 use Rattle.public_keys.specs.PublicKeys.{streamAnswer, inverseAnswer}
 
 -- ---- secret keys
@@ -27,7 +26,7 @@ verdictAnswer KeyMismatch = Refused Refusal.KeyMismatch
 -- 2, 3, 4, 5, 6, 7 of a secret key, "SDK"
 unfoldable pub secretAnswer : List ℕ → Answer
 secretAnswer k =
-    andThen (recordAnswer secretKeyMark 1 k)
+    andThen (secretFrontAnswer k)
     (andThen (codesAnswer (codesPart k)) (verdictAnswer (keyCheck (firstOf k) (secondOf k) (secretOf k))))
 
 -- ---- a secret key by its elements

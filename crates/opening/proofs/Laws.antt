@@ -21,7 +21,6 @@ use Rattle.derivation.specs.Derivation.{genuine?, entryOf, verifiedEntry}
 use Rattle.answers.specs.declared.Refusal.{Refusal}
 use Rattle.answers.specs.declared.Refusal.the-variants.{DecapsulationFailure, TagMismatch}
 use Rattle.answers.specs.declared.Answer.{Answer}
-use Rattle.records.specs.declared.Elements.{Elements}
 use Rattle.answers.specs.declared.Answer.the-variants.{Done, Refused}
 use Rattle.answers.specs.Answers.{unless, andThen, onDone}
 use Rattle.calls.specs.Calls.{outcome, outcomeAnswer, outcomeBytes, openedAnswer, openedEntry}
@@ -41,16 +40,16 @@ pub read-sized : (k : List ℕ) → Sized (elementsOf k)
 read-sized k = record { a-size = length-elementOf _; b-size = length-elementOf _; s-size = length-ternaryOf _ }
 
 -- by the spectra of a, b, s and the reciprocals of that of b
-pub outcome-by : (k : SecretKey) (inverse : List ℕ) (t : Declared.Triple) (read : Elements) {key : KeyElements} {dummy : Triple} {c1 c2 : List ℕ} → Sized key
+pub outcome-by : (k : SecretKey) (inverse : List ℕ) (t : Declared.Triple) (x1 x2 : List ℕ) {key : KeyElements} {dummy : Triple} {c1 c2 : List ℕ} → Sized key
     → k .a ≡ spectrumOf (key .a) → k .b ≡ spectrumOf (key .b) → k .s ≡ spectrumOf (key .s) → inverse ≡ reciprocalsOf (k .b)
-    → asTriple t ≡ dummy → read .first ≡ c1 → read .second ≡ c2 → outcomeBy k inverse t read ≡ outcome key dummy c1 c2
+    → asTriple t ≡ dummy → x1 ≡ c1 → x2 ≡ c2 → outcomeBy k inverse t x1 x2 ≡ outcome key dummy c1 c2
 unfolding outcome
-outcome-by k inverse t read {key} {dummy} {c1} {c2} size ea eb es ei et e1 e2 =
-    ap₂ (λ (x y : List ℕ). decapsulation (coefficientsOf x) (coefficientsOf y) (coefficientsOf inverse) (coefficientsOf (k .s)) (asTriple t) (read .first) (read .second)) ea eb
-    ∙ ap₂ (λ (x y : List ℕ). decapsulation (coefficientsOf (spectrumOf a)) (coefficientsOf (spectrumOf b)) (coefficientsOf x) (coefficientsOf y) (asTriple t) (read .first) (read .second))
+outcome-by k inverse t x1 x2 {key} {dummy} {c1} {c2} size ea eb es ei et e1 e2 =
+    ap₂ (λ (x y : List ℕ). decapsulation (coefficientsOf x) (coefficientsOf y) (coefficientsOf inverse) (coefficientsOf (k .s)) (asTriple t) x1 x2) ea eb
+    ∙ ap₂ (λ (x y : List ℕ). decapsulation (coefficientsOf (spectrumOf a)) (coefficientsOf (spectrumOf b)) (coefficientsOf x) (coefficientsOf y) (asTriple t) x1 x2)
     (ei ∙ ap reciprocalsOf eb ∙ inverse-spectrum b (size .b-size)) es
-    ∙ decapsulation-through a b (inverseOf b) s (size .a-size) (size .b-size) (length-inverse b) (size .s-size) (asTriple t) (read .first) (read .second)
-    ∙ ap (λ (x : Triple). decapsulation a b (inverseOf b) s x (read .first) (read .second)) et
+    ∙ decapsulation-through a b (inverseOf b) s (size .a-size) (size .b-size) (length-inverse b) (size .s-size) (asTriple t) x1 x2
+    ∙ ap (λ (x : Triple). decapsulation a b (inverseOf b) s x x1 x2) et
     ∙ ap₂ (decapsulation a b (inverseOf b) s dummy) e1 e2
   where
     a : List ℕ

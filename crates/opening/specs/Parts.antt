@@ -3,8 +3,7 @@ use mathlib.Core.List.{List}
 use Prim.Native.Nat.{ℕ}
 use Rattle.scheme.specs.Scheme.{Outcome}
 use Rattle.answers.specs.declared.Answer.{Answer}
-use Rattle.records.specs.Layout.{sealedEntryMark}
-use Rattle.records.specs.Records.{firstOf, secondOf, bodyPart, tagPart, recordAnswer, c1Of, c2Of, encapsulationAnswer}
+use Rattle.records.specs.Records.{firstOf, secondOf, bodyPart, tagPart, sealedEntryAnswer, c1Of, c2Of, encapsulationAnswer}
 use Rattle.triples.specs.Triple.{tripleOf, tripleAnswer}
 use Rattle.keys.specs.Keys.{secretAnswer, elementsOf, noiseTriple}
 use Rattle.calls.specs.Calls.{outcome}
@@ -21,4 +20,4 @@ openedOutcome k sealed noise = outcome (elementsOf k) (noiseTriple noise) (first
 
 abbrev pub entryAnswer : (key sealed noise : List ℕ) → Answer
 entryAnswer k sealed noise =
-    openedBy (secretAnswer k) (recordAnswer sealedEntryMark 1 sealed) (openedOutcome k sealed noise) (bodyPart sealed) (tagPart sealed)
+    openedBy (secretAnswer k) (sealedEntryAnswer sealed) (openedOutcome k sealed noise) (bodyPart sealed) (tagPart sealed)

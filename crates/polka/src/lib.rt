@@ -1,10 +1,10 @@
 // What a console and a desk link: each public call for C. A slice is a pointer and a length, buffers may have any length, and the answer is
-// document 01's number, or document 02's; under any number but 0 every output is as it came. The definitions that the contracts cite
-// stand in crate calls.
+// a code that holds number and location, 0 where the call is done; under any other every output is as it came. The definitions that the
+// contracts cite stand in crates calls and answers.
 ghost use mathlib.Core.Path.{_≡_};
 ghost use lib.ListN.{length};
 ghost use Rattle.shake.specs.Shake.{shake128, shake256};
-ghost use Rattle.answers.specs.Answers.{number};
+ghost use Rattle.answers.specs.Locations.{code};
 ghost use Rattle.calls.specs.Calls.{checkAnswer, keygenAnswer, keygenPublic, keygenSecret, seededKeygenAnswer, seededKeygenPublic, seededKeygenSecret};
 ghost use Rattle.calls.specs.Calls.{encapsulateAnswer, encapsulateOut};
 ghost use Rattle.calls.specs.Calls.{decapsulateAnswer, decapsulateOut, sealAnswer, sealOut, openAnswer, openOut};
@@ -18,12 +18,12 @@ pub extern "C" fn polka_keygen(
     public: &mut [u8],
     secret: &mut [u8],
 ) -> u32
-    ensures { λ n. ⌜ n ≡ number (keygenAnswer (now (stream .entry)) (now (s .entry)) (now (e .entry)) (length (now (public .entry))) (length (now (secret .entry)))) ⌝ }
+    ensures { λ n. ⌜ n ≡ code (keygenAnswer (now (stream .entry)) (now (s .entry)) (now (e .entry)) (length (now (public .entry))) (length (now (secret .entry)))) ⌝ }
     ensures { λ _. ⌜ now (public .exit) ≡ keygenPublic (now (stream .entry)) (now (s .entry)) (now (e .entry)) (now (public .entry)) (now (secret .entry)) ⌝ }
     ensures { λ _. ⌜ now (secret .exit) ≡ keygenSecret (now (stream .entry)) (now (s .entry)) (now (e .entry)) (now (public .entry)) (now (secret .entry)) ⌝ }
 {
     let answer = key_calls::keygen(stream, s, e, public, secret);
-    answers::number(answer)
+    answers::code(answer)
 }
 
 #[no_mangle]
@@ -34,30 +34,30 @@ pub extern "C" fn polka_keygen_from_seed(
     public: &mut [u8],
     secret: &mut [u8],
 ) -> u32
-    ensures { λ n. ⌜ n ≡ number (seededKeygenAnswer (now (seed .entry)) (now (s .entry)) (now (e .entry)) (length (now (public .entry))) (length (now (secret .entry)))) ⌝ }
+    ensures { λ n. ⌜ n ≡ code (seededKeygenAnswer (now (seed .entry)) (now (s .entry)) (now (e .entry)) (length (now (public .entry))) (length (now (secret .entry)))) ⌝ }
     ensures { λ _. ⌜ now (public .exit) ≡ seededKeygenPublic (now (seed .entry)) (now (s .entry)) (now (e .entry)) (now (public .entry)) (now (secret .entry)) ⌝ }
     ensures { λ _. ⌜ now (secret .exit) ≡ seededKeygenSecret (now (seed .entry)) (now (s .entry)) (now (e .entry)) (now (public .entry)) (now (secret .entry)) ⌝ }
 {
     let answer = seeded_keygen::keygen_from_seed(seed, s, e, public, secret);
-    answers::number(answer)
+    answers::code(answer)
 }
 
 #[no_mangle]
 pub extern "C" fn polka_check_secret_key(key: &[u8]) -> u32
-    ensures { λ n. ⌜ n ≡ number (checkAnswer (now (key .entry))) ⌝ }
+    ensures { λ n. ⌜ n ≡ code (checkAnswer (now (key .entry))) ⌝ }
     ensures { λ n. ⌜ CheckExact (now (key .entry)) n ⌝ }
 {
     let answer = key_calls::check_secret_key(key);
-    answers::number(answer)
+    answers::code(answer)
 }
 
 #[no_mangle]
 pub extern "C" fn polka_encapsulate(key: &[u8], triple: &[u8], out: &mut [u8]) -> u32
-    ensures { λ n. ⌜ n ≡ number (encapsulateAnswer (now (key .entry)) (now (triple .entry)) (length (now (out .entry)))) ⌝ }
+    ensures { λ n. ⌜ n ≡ code (encapsulateAnswer (now (key .entry)) (now (triple .entry)) (length (now (out .entry)))) ⌝ }
     ensures { λ _. ⌜ now (out .exit) ≡ encapsulateOut (now (key .entry)) (now (triple .entry)) (now (out .entry)) ⌝ }
 {
     let answer = sealing::encapsulate(key, triple, out);
-    answers::number(answer)
+    answers::code(answer)
 }
 
 #[no_mangle]
@@ -67,31 +67,31 @@ pub extern "C" fn polka_decapsulate(
     dummy: &[u8],
     out: &mut [u8],
 ) -> u32
-    ensures { λ n. ⌜ n ≡ number (decapsulateAnswer (now (key .entry)) (now (encapsulation .entry)) (now (dummy .entry)) (length (now (out .entry)))) ⌝ }
+    ensures { λ n. ⌜ n ≡ code (decapsulateAnswer (now (key .entry)) (now (encapsulation .entry)) (now (dummy .entry)) (length (now (out .entry)))) ⌝ }
     ensures { λ _. ⌜ now (out .exit) ≡ decapsulateOut (now (key .entry)) (now (encapsulation .entry)) (now (dummy .entry)) (now (out .entry)) ⌝ }
     ensures { λ n. ⌜ DecapsulateExact (now (key .entry)) (now (encapsulation .entry)) (now (dummy .entry)) (now (out .entry)) n (now (out .exit)) ⌝ }
 {
     let answer = opening::decapsulate(key, encapsulation, dummy, out);
-    answers::number(answer)
+    answers::code(answer)
 }
 
 #[no_mangle]
 pub extern "C" fn polka_seal(key: &[u8], noise: &[u8], entry: &[u8], out: &mut [u8]) -> u32
-    ensures { λ n. ⌜ n ≡ number (sealAnswer (now (key .entry)) (now (noise .entry)) (now (entry .entry)) (length (now (out .entry)))) ⌝ }
+    ensures { λ n. ⌜ n ≡ code (sealAnswer (now (key .entry)) (now (noise .entry)) (now (entry .entry)) (length (now (out .entry)))) ⌝ }
     ensures { λ _. ⌜ now (out .exit) ≡ sealOut (now (key .entry)) (now (noise .entry)) (now (entry .entry)) (now (out .entry)) ⌝ }
 {
     let answer = sealing::seal(key, noise, entry, out);
-    answers::number(answer)
+    answers::code(answer)
 }
 
 #[no_mangle]
 pub extern "C" fn polka_open(key: &[u8], sealed: &[u8], noise: &[u8], out: &mut [u8]) -> u32
-    ensures { λ n. ⌜ n ≡ number (openAnswer (now (key .entry)) (now (sealed .entry)) (now (noise .entry)) (length (now (out .entry)))) ⌝ }
+    ensures { λ n. ⌜ n ≡ code (openAnswer (now (key .entry)) (now (sealed .entry)) (now (noise .entry)) (length (now (out .entry)))) ⌝ }
     ensures { λ _. ⌜ now (out .exit) ≡ openOut (now (key .entry)) (now (sealed .entry)) (now (noise .entry)) (now (out .entry)) ⌝ }
     ensures { λ n. ⌜ OpenExact (now (key .entry)) (now (sealed .entry)) (now (noise .entry)) (now (out .entry)) n (now (out .exit)) ⌝ }
 {
     let answer = opening::open(key, sealed, noise, out);
-    answers::number(answer)
+    answers::code(answer)
 }
 
 // SHAKE128 of `input`, as many bytes as `out` has. Both may have any length.

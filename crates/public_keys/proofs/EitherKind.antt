@@ -9,8 +9,7 @@ use Rattle.encoding.proofs.Words.{length-elementOf}
 use Rattle.sampling.proofs.Streams.{uniform-element}
 use Rattle.seeds.specs.Seeds.{seedStream, seedElement}
 use Rattle.answers.specs.declared.Answer.the-variants.{Done}
-use Rattle.records.specs.Layout.{publicKeyMark}
-use Rattle.records.specs.Records.{firstOf, secondOf, recordAnswer, seedOf, seededB, seededRecordAnswer}
+use Rattle.records.specs.Records.{firstOf, secondOf, publicFrontAnswer, seedOf, seededB, seededRecordAnswer}
 use Rattle.public_keys.specs.PublicKeys.{streamAnswer, seeded?, publicA, publicB, publicRecordAnswer, publicStreamAnswer}
 
 -- what a test picks
@@ -28,7 +27,7 @@ module _ (k : List ℕ) (kind : seeded? k ≡ true) where
 
   pub seeded-record : publicRecordAnswer k ≡ seededRecordAnswer k
   unfolding publicRecordAnswer
-  seeded-record = picked (seededRecordAnswer k) (recordAnswer publicKeyMark 1 k) kind
+  seeded-record = picked (seededRecordAnswer k) (publicFrontAnswer k) kind
 
   pub seeded-stream : publicStreamAnswer k ≡ streamAnswer (seedStream (seedOf k))
   unfolding publicStreamAnswer
@@ -43,9 +42,9 @@ module _ (k : List ℕ) (kind : seeded? k ≡ false) where
   unfolding publicB
   long-b = picked (seededB k) (secondOf k) kind
 
-  pub long-record : publicRecordAnswer k ≡ recordAnswer publicKeyMark 1 k
+  pub long-record : publicRecordAnswer k ≡ publicFrontAnswer k
   unfolding publicRecordAnswer
-  long-record = picked (seededRecordAnswer k) (recordAnswer publicKeyMark 1 k) kind
+  long-record = picked (seededRecordAnswer k) (publicFrontAnswer k) kind
 
   pub long-stream : publicStreamAnswer k ≡ Done
   unfolding publicStreamAnswer

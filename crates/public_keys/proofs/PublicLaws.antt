@@ -1,4 +1,4 @@
--- The checks of a public key of either kind: when they say Done, when 6, and when 8.
+-- The checks of a public key of either kind: when they say Done, when 6, when 8, and which word 4 names.
 use mathlib.Core.Path.{_≡_, refl, sym, ap, _∙_}
 use mathlib.Core.Bool.{Bool, true, false, decide, decide-iff, not-eq-not, false≢true, _||_}
 use mathlib.Core.Logic.{_↔_, _⊎_, inl, inr, Iff·rfl, Iff·trans, Iff·and}
@@ -15,14 +15,17 @@ use Rattle.sampling.proofs.Streams.{uniform-element}
 use Rattle.seeds.specs.Seeds.{seedStream}
 use Rattle.answers.specs.declared.Refusal.the-variants as Refusal
 use Rattle.answers.specs.declared.Answer.the-variants.{Done}
+use Rattle.answers.specs.declared.Location.{Location}
 use Rattle.answers.specs.Answers.{number, unless, andThen}
-use Rattle.records.specs.Layout.{publicKeyMark, publicKeyLength, seededKeyLength}
+use Rattle.answers.specs.Locations.{Names}
+use Rattle.records.specs.Layout.{publicKeyLength, seededKeyLength}
 use Rattle.records.specs.Records.{seedOf}
 use Rattle.records.specs.WellFormed.{WellFormedSeededKey}
 use Rattle.public_keys.specs.PublicKeys.{streamAnswer, inverseAnswer, publicLength?, seeded?, publicB, publicRecordAnswer, publicStreamAnswer, publicAnswer}
-use Rattle.public_keys.specs.WellFormed.{SeedFills, PublicHeader, PublicRecord}
-use Rattle.answers.proofs.AnswerLaws.{Never, done-never, unless-done, unless-never, unless-refuses, then-done, then-never, then-says, then-refuses}
-use Rattle.records.proofs.RecordLaws.{equal-done, record-done, seeded-done, record-never, seeded-never}
+use Rattle.public_keys.specs.WellFormed.{SeedFills, PublicHeader, PublicRecord, PublicNamed}
+use Rattle.answers.proofs.AnswerLaws.{Never, done-never, unless-done, unless-never, unless-refuses, then-done, then-never, then-says, then-refuses, names-first}
+use Rattle.records.proofs.RecordLaws.{equal-done, public-front-done, seeded-done, public-front-never, seeded-never}
+use Rattle.records.proofs.NamedWords.{public-front-named, seeded-named}
 use Rattle.public_keys.proofs.EitherKind.{seeded-a, seeded-b, seeded-record, seeded-stream, long-a, long-b, long-record, long-stream}
 
 -- ---- 6
@@ -40,8 +43,8 @@ pub inverse-refused : (b : List ℕ) → (number (inverseAnswer b) ≡ 6) ↔ ¬
 inverse-refused b = Iff·trans (unless-refuses (decide (invertible? b)) Refusal.NotInvertible) (none-decided b)
 
 -- it says no other number
-pub inverse-never : (b : List ℕ) → Never 8 (inverseAnswer b)
-inverse-never b = unless-never (decide (invertible? b)) Refusal.NotInvertible (λ (e : 6 ≡ 8). omega arith) (done-never (omega arith))
+pub inverse-never : {number : ℕ} → 0 < number → ¬ (6 ≡ number) → (b : List ℕ) → Never number (inverseAnswer b)
+inverse-never some other b = unless-never (decide (invertible? b)) Refusal.NotInvertible other (done-never some)
 
 -- ---- 8
 
@@ -53,8 +56,8 @@ stream-refused stream =
     Iff·trans (unless-refuses (eqb (length (taken stream)) n) Refusal.StreamExhausted)
     (λ e same. false≢true (sym e ∙ eq-eqb (length (taken stream)) n same), λ other. ne-eqb (length (taken stream)) n other)
 
-pub stream-never : (stream : List ℕ) → Never 6 (streamAnswer stream)
-stream-never stream = unless-never (eqb (length (taken stream)) n) Refusal.StreamExhausted (λ (e : 8 ≡ 6). omega arith) (done-never (omega arith))
+pub stream-never : {number : ℕ} → 0 < number → ¬ (8 ≡ number) → (stream : List ℕ) → Never number (streamAnswer stream)
+stream-never some other stream = unless-never (eqb (length (taken stream)) n) Refusal.StreamExhausted other (done-never some)
 
 -- ---- lengths
 
@@ -85,12 +88,12 @@ module _ (k : List ℕ) where
   is-long : length k ≡ publicKeyLength → seeded? k ≡ false
   is-long size = ne-eqb (length k) seededKeyLength (λ e. omega arith)
 
-  record-never-either : (number : ℕ) → 5 < number → Never number (publicRecordAnswer k)
+  record-never-either : (number : ℕ) → 4 < number → Never number (publicRecordAnswer k)
   record-never-either number h = by-kind (seeded? k) refl
     where
       by-kind : (b : Bool) → seeded? k ≡ b → Never number (publicRecordAnswer k)
       by-kind true kind = rw (seeded-record k kind) (seeded-never h k)
-      by-kind false kind = rw (long-record k kind) (record-never h publicKeyMark 1 k)
+      by-kind false kind = rw (long-record k kind) (public-front-never h k)
 
   -- 2, 3, 4 and 8 pass
   record-either : ((publicLength? (length k) ≡ true) × (publicRecordAnswer k ≡ Done) × (publicStreamAnswer k ≡ Done)) ↔ PublicRecord k
@@ -106,7 +109,7 @@ module _ (k : List ℕ) where
             b-words = rw (seeded-b k kind) words;
           }
       whole false kind size checked stream =
-          let w = record-done publicKeyMark 1 k .0 (sym (long-record k kind) ∙ checked) in
+          let w = public-front-done k .0 (sym (long-record k kind) ∙ checked) in
           record {
             header = inl (long-length k size (λ e. false≢true (sym kind ∙ is-seeded e)), w .has-mark, w .has-version);
             a-words = rw (long-a k kind) (w .first-words);
@@ -117,7 +120,7 @@ module _ (k : List ℕ) where
       parts (inl (size, mark, version)) w =
           let kind = is-long size in (
             public-length (length k) .1 (inl size),
-            long-record k kind ∙ record-done publicKeyMark 1 k .1
+            long-record k kind ∙ public-front-done k .1
                 (record { has-mark = mark; has-version = version; first-words = rw (sym (long-a k kind)) (w .a-words); second-words = rw (sym (long-b k kind)) (w .b-words) }),
             long-stream k kind,
           )
@@ -128,12 +131,12 @@ module _ (k : List ℕ) where
             seeded-stream k kind ∙ stream-done (seedStream (seedOf k)) .1 fills,
           )
 
-  stream-never-either : Never 6 (publicStreamAnswer k)
-  stream-never-either = by-kind (seeded? k) refl
+  stream-never-either : {number : ℕ} → 0 < number → ¬ (8 ≡ number) → Never number (publicStreamAnswer k)
+  stream-never-either {number} some other = by-kind (seeded? k) refl
     where
-      by-kind : (b : Bool) → seeded? k ≡ b → Never 6 (publicStreamAnswer k)
-      by-kind true kind = rw (seeded-stream k kind) (stream-never (seedStream (seedOf k)))
-      by-kind false kind = rw (long-stream k kind) (done-never (omega arith))
+      by-kind : (b : Bool) → seeded? k ≡ b → Never number (publicStreamAnswer k)
+      by-kind true kind = rw (seeded-stream k kind) (stream-never some other (seedStream (seedOf k)))
+      by-kind false kind = rw (long-stream k kind) (done-never some)
 
   -- ---- the key
 
@@ -154,7 +157,7 @@ module _ (k : List ℕ) where
   unfolding publicAnswer
   public-refused =
       Iff·trans
-      (Iff·and Iff·rfl (Iff·trans (then-says _ (record-never-either 6 (omega arith))) (Iff·and Iff·rfl (then-says _ stream-never-either))))
+      (Iff·and Iff·rfl (Iff·trans (then-says _ (record-never-either 6 (omega arith))) (Iff·and Iff·rfl (then-says _ (stream-never-either (omega arith) (λ e. omega arith))))))
       (behind-record (inverse-refused (publicB k)))
 
   pub public-exhausted : ((publicLength? (length k) ≡ true) × (number (publicAnswer k) ≡ 8)) ↔ (WellFormedSeededKey k × ¬ (SeedFills k))
@@ -163,7 +166,7 @@ module _ (k : List ℕ) where
       Iff·trans
       (Iff·and Iff·rfl
       (Iff·trans (then-says _ (record-never-either 8 (omega arith)))
-      (Iff·and Iff·rfl (then-refuses (publicStreamAnswer k) (omega arith) (inverse-never (publicB k)))))) (
+      (Iff·and Iff·rfl (then-refuses (publicStreamAnswer k) (omega arith) (inverse-never (omega arith) (λ e. omega arith) (publicB k)))))) (
         λ (size, (checked, says)). by-kind (seeded? k) refl checked says,
         λ (w, dry).
             let kind = is-seeded (w .size) in (
@@ -179,3 +182,33 @@ module _ (k : List ℕ) where
             stream-refused (seedStream (seedOf k)) .0 (sym (ap number (seeded-stream k kind)) ∙ says),
           )
       by-kind false kind checked says = absurd (omega (arith, sym (ap number (long-stream k kind)) ∙ says))
+
+  -- ---- 4
+
+  behind-never : {number : ℕ} → 0 < number → ¬ (6 ≡ number) → ¬ (8 ≡ number) → Never number (andThen (publicStreamAnswer k) (inverseAnswer (publicB k)))
+  behind-never some six eight = then-never (stream-never-either some eight) (inverse-never some six (publicB k))
+
+  pub public-named : (l : Location) → ((publicLength? (length k) ≡ true) × Names 4 l (publicAnswer k)) ↔ PublicNamed k l
+  unfolding publicAnswer
+  public-named l = Iff·trans (Iff·and Iff·rfl (names-first (publicRecordAnswer k) (omega arith) (behind-never (omega arith) (λ e. omega arith) (λ e. omega arith)))) (to, from)
+    where
+      to : (publicLength? (length k) ≡ true) × Names 4 l (publicRecordAnswer k) → PublicNamed k l
+      to (size, names) = by-kind (seeded? k) refl
+        where
+          by-kind : (b : Bool) → seeded? k ≡ b → PublicNamed k l
+          by-kind true kind =
+              let (mark, version, named) = seeded-named k l .0 (rw (seeded-record k kind) at names) in
+              inr ((eqb-true (length k) seededKeyLength kind, mark, version), named)
+          by-kind false kind =
+              let (mark, version, named) = public-front-named k l .0 (rw (long-record k kind) at names) in
+              inl ((long-length k size (λ e. false≢true (sym kind ∙ is-seeded e)), mark, version), named)
+
+      from : PublicNamed k l → (publicLength? (length k) ≡ true) × Names 4 l (publicRecordAnswer k)
+      from (inl ((size, mark, version), named)) =
+          (public-length (length k) .1 (inl size), rw (long-record k (is-long size)) (public-front-named k l .1 (mark, version, named)))
+      from (inr ((size, mark, version), named)) =
+          (public-length (length k) .1 (inr size), rw (seeded-record k (is-seeded size)) (seeded-named k l .1 (mark, version, named)))
+
+  pub public-never : {number : ℕ} → 8 < number → Never number (publicAnswer k)
+  unfolding publicAnswer
+  public-never h = then-never (record-never-either _ (omega arith)) (behind-never (omega arith) (λ e. omega arith) (λ e. omega arith))

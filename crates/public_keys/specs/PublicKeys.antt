@@ -13,8 +13,8 @@ use Rattle.answers.specs.declared.Refusal.the-variants as Refusal
 use Rattle.answers.specs.declared.Answer.{Answer}
 use Rattle.answers.specs.declared.Answer.the-variants.{Done}
 use Rattle.answers.specs.Answers.{unless, andThen}
-use Rattle.records.specs.Layout.{publicKeyMark, publicKeyLength, seededKeyLength}
-use Rattle.records.specs.Records.{firstOf, secondOf, recordAnswer, seedOf, seededB, seededRecordAnswer}
+use Rattle.records.specs.Layout.{publicKeyLength, seededKeyLength}
+use Rattle.records.specs.Records.{firstOf, secondOf, publicFrontAnswer, seedOf, seededB, seededRecordAnswer}
 
 -- ---- checks that key generation shares
 
@@ -44,7 +44,7 @@ publicB k = cond (seeded? k) (seededB k) (secondOf k)
 
 -- 2, 3, 4
 unfoldable pub publicRecordAnswer : List ℕ → Answer
-publicRecordAnswer k = cond (seeded? k) (seededRecordAnswer k) (recordAnswer publicKeyMark 1 k)
+publicRecordAnswer k = cond (seeded? k) (seededRecordAnswer k) (publicFrontAnswer k)
 
 -- 8, of a seed
 unfoldable pub publicStreamAnswer : List ℕ → Answer

@@ -1,10 +1,13 @@
 // Public keys read off the bytes that a call was lent: checked in the order of documents 01 and 02, and prepared for the scheme. The length
 // picks the record. The calls test every length first, so the readers are lent a buffer of one of the two lengths.
 use answers::Answer;
+use answers::KeyPart;
+use answers::KeyRecord;
 use answers::Refusal;
 use ntt::DEGREE;
 use ntt::Element;
 use ntt::Spectrum;
+use records::Elements;
 use records::PUBLIC_KEY_LENGTH;
 use records::PUBLIC_KEY_MARK;
 use records::SEED;
@@ -15,7 +18,10 @@ ghost use mathlib.Core.Bool.{true};
 ghost use lib.ListN.{length};
 ghost use Rattle.ntt.specs.Spectrum.{spectrumOf};
 ghost use Rattle.ntt.specs.Factors.{forwardFactors};
+ghost use Rattle.answers.specs.declared.KeyRecord.the-variants as Kind;
 ghost use Rattle.records.specs.Layout.{publicKeyLength, seededKeyLength};
+ghost use Rattle.records.specs.Records.{aWord, bWord};
+ghost use Rattle.records.specs.Read.{frontOf};
 ghost use Rattle.public_keys.specs.PublicKeys.{publicLength?, publicA, publicB, publicRecordAnswer, publicStreamAnswer, publicAnswer};
 
 // Whether a public key may have this length.
@@ -28,24 +34,38 @@ pub fn is_public_length(size: usize) -> bool
 // ---- the record
 
 // What mark, version and words are answered by, what the stream of a seed is, and a and b.
-struct Elements {
+struct Parts {
     record: Answer,
     stream: Answer,
     a: Element,
     b: Element,
 }
 
-// Of a record with the mark "PDK".
-fn read_long(bytes: &[u8]) -> Elements
+// What the front of a record with the mark "PDK" is answered by; its first word that is q or more is named.
+fn front_answer(read: Elements) -> Answer
+    ensures { λ a. ⌜ a ≡ frontOf read (aWord Kind.PublicKey (read .unreduced .first)) (bWord Kind.PublicKey (read .unreduced .second)) ⌝ }
+{
+    let at = read.unreduced;
+    let a = KeyRecord::PublicKey(KeyPart::A(at.first));
+    let b = KeyRecord::PublicKey(KeyPart::B(at.second));
+    records::front_answer(
+        read,
+        Refusal::KeyOutOfRange(a),
+        Refusal::KeyOutOfRange(b),
+    )
+}
+
+// Of such a record.
+fn read_long(bytes: &[u8]) -> Parts
     requires { ⌜ length (now bytes) ≡ publicKeyLength ⌝ }
     ensures { λ r. ⌜ (r .record ≡ publicRecordAnswer (now (bytes .entry))) × (r .stream ≡ publicStreamAnswer (now (bytes .entry))) ⌝ }
     ensures { λ r. ⌜ (r .a ≡ publicA (now (bytes .entry))) × (r .b ≡ publicB (now (bytes .entry))) ⌝ }
 {
     let read = records::read_record(bytes, PUBLIC_KEY_MARK, 1);
-    let record = records::front_answer(read);
+    let record = front_answer(read);
     let a = read.first;
     let b = read.second;
-    Elements {
+    Parts {
         record,
         stream: Answer::Done,
         a,
@@ -54,7 +74,7 @@ fn read_long(bytes: &[u8]) -> Elements
 }
 
 // Of a record with the mark "PDS".
-fn read_seeded(bytes: &[u8]) -> Elements
+fn read_seeded(bytes: &[u8]) -> Parts
     requires { ⌜ length (now bytes) ≡ seededKeyLength ⌝ }
     ensures { λ r. ⌜ (r .record ≡ publicRecordAnswer (now (bytes .entry))) × (r .stream ≡ publicStreamAnswer (now (bytes .entry))) ⌝ }
     ensures { λ r. ⌜ (r .a ≡ publicA (now (bytes .entry))) × (r .b ≡ publicB (now (bytes .entry))) ⌝ }
@@ -65,7 +85,7 @@ fn read_seeded(bytes: &[u8]) -> Elements
     let stream = answers::unless(u.count == DEGREE, Refusal::StreamExhausted);
     let a = u.value;
     let b = read.b;
-    Elements {
+    Parts {
         record,
         stream,
         a,
@@ -74,7 +94,7 @@ fn read_seeded(bytes: &[u8]) -> Elements
 }
 
 // Of either.
-fn read_elements(bytes: &[u8]) -> Elements
+fn read_parts(bytes: &[u8]) -> Parts
     requires { ⌜ publicLength? (length (now bytes)) ≡ true ⌝ }
     ensures { λ r. ⌜ (r .record ≡ publicRecordAnswer (now (bytes .entry))) × (r .stream ≡ publicStreamAnswer (now (bytes .entry))) ⌝ }
     ensures { λ r. ⌜ (r .a ≡ publicA (now (bytes .entry))) × (r .b ≡ publicB (now (bytes .entry))) ⌝ }
@@ -99,7 +119,7 @@ pub fn read_public_key(bytes: &[u8], forward: &[u16]) -> PublicKey
     ensures { λ k. ⌜ k .answer ≡ publicAnswer (now (bytes .entry)) ⌝ }
     ensures { λ k. ⌜ (k .a ≡ spectrumOf (publicA (now (bytes .entry)))) × (k .b ≡ spectrumOf (publicB (now (bytes .entry)))) ⌝ }
 {
-    let read = read_elements(bytes);
+    let read = read_parts(bytes);
     let record = read.record;
     let stream = read.stream;
     let first = read.a;

@@ -1,17 +1,19 @@
 -- The checks of a record, one after the other.
-use mathlib.Core.Path.{_≡_, sym, ap, ap₂, _∙_}
+use mathlib.Core.Path.{_≡_, refl, sym, ap, ap₂, _∙_}
 use mathlib.Core.Bool.{Bool, true, false}
 use mathlib.Core.List.{List}
 use Prim.Native.Nat.{ℕ}
 use lib.Dec.{eqb}
 use Rattle.encoding.specs.Words.{firstUnreduced}
 use Rattle.encoding.specs.Header.{hasMark, versionOf}
+use Rattle.answers.specs.declared.KeyRecord.the-variants.{SeededPublicKey}
+use Rattle.answers.specs.declared.Refusal.{Refusal}
 use Rattle.answers.specs.declared.Refusal.the-variants.{WrongMark, WrongVersion}
 use Rattle.answers.specs.declared.Answer.{Answer}
 use Rattle.answers.specs.declared.Answer.the-variants.{Done, Refused}
 use Rattle.answers.specs.Answers.{unless, andThen}
 use Rattle.records.specs.Layout.{seededKeyMark}
-use Rattle.records.specs.Records.{firstOf, secondOf, c1Of, c2Of, headerAnswer, wordsAnswer, elementsAnswer, recordAnswer, seededB, seededRecordAnswer, encapsulationAnswer}
+use Rattle.records.specs.Records.{firstOf, secondOf, headerAnswer, bWord, wordsAnswer, elementsAnswer, unreducedAnswer, recordAnswer, seededB, seededRecordAnswer}
 
 module _ (mark : List ℕ) (version : ℕ) (bytes : List ℕ) where
   abbrev judged : Bool → Bool → Answer
@@ -29,20 +31,22 @@ module _ (mark : List ℕ) (version : ℕ) (bytes : List ℕ) where
   unfolding headerAnswer
   header-done m v = sym (ap₂ judged m v)
 
-  -- the front of a record, from what was read of it
-  pub front-checked : {h a : Answer} {i j : ℕ} → h ≡ headerAnswer mark version bytes
-      → (i ≡ firstUnreduced (firstOf bytes)) × (j ≡ firstUnreduced (secondOf bytes)) → a ≡ andThen h (elementsAnswer i j) → a ≡ recordAnswer mark version bytes
-  unfolding recordAnswer
-  front-checked e (ei, ej) f = f ∙ ap₂ andThen e (ap₂ elementsAnswer ei ej)
+-- the words of two elements, from their places
+pub words-checked : (one other : ℕ → Refusal) (first second : List ℕ) {a : Answer} {i j : ℕ}
+    → (i ≡ firstUnreduced first) × (j ≡ firstUnreduced second) → a ≡ elementsAnswer i j (one i) (other j) → a ≡ unreducedAnswer one other first second
+unfolding unreducedAnswer
+words-checked one other first second (ei, ej) f = f ∙ ap₂ (λ (i j : ℕ). elementsAnswer i j (one i) (other j)) ei ej
+
+-- the front of a record, from what was read of it
+pub front-checked : (mark : List ℕ) (version : ℕ) (one other : ℕ → Refusal) (bytes : List ℕ) {h a : Answer} {i j : ℕ} → h ≡ headerAnswer mark version bytes
+    → (i ≡ firstUnreduced (firstOf bytes)) × (j ≡ firstUnreduced (secondOf bytes)) → a ≡ andThen h (elementsAnswer i j (one i) (other j))
+    → a ≡ recordAnswer mark version one other bytes
+unfolding recordAnswer
+front-checked mark version one other bytes e places f =
+    f ∙ ap₂ andThen e (words-checked one other (firstOf bytes) (secondOf bytes) places refl)
 
 -- a seeded key's record
 pub seeded-checked : (bytes : List ℕ) {h a : Answer} {i : ℕ} → h ≡ headerAnswer seededKeyMark 1 bytes → i ≡ firstUnreduced (seededB bytes)
-    → a ≡ andThen h (wordsAnswer i) → a ≡ seededRecordAnswer bytes
+    → a ≡ andThen h (wordsAnswer i (bWord SeededPublicKey i)) → a ≡ seededRecordAnswer bytes
 unfolding seededRecordAnswer
-seeded-checked bytes e ei f = f ∙ ap₂ andThen e (ap wordsAnswer ei)
-
--- the words of an encapsulation
-pub words-checked : (bytes : List ℕ) {h a : Answer} {i j : ℕ} → h ≡ Done
-    → (i ≡ firstUnreduced (c1Of bytes)) × (j ≡ firstUnreduced (c2Of bytes)) → a ≡ andThen h (elementsAnswer i j) → a ≡ encapsulationAnswer bytes
-unfolding encapsulationAnswer
-words-checked bytes e (ei, ej) f = f ∙ ap₂ andThen e (ap₂ elementsAnswer ei ej)
+seeded-checked bytes e ei f = f ∙ ap₂ andThen e (ap (λ (i : ℕ). wordsAnswer i (bWord SeededPublicKey i)) ei)

@@ -14,12 +14,16 @@ use Rattle.encoding.specs.Codes.{firstInvalidCode}
 use Rattle.encoding.specs.Header.{hasMark, versionOf}
 use Rattle.encoding.proofs.Words.{length-elementOf, unreduced-iff}
 use Rattle.answers.specs.declared.Refusal.{Refusal}
-use Rattle.answers.specs.declared.Refusal.the-variants.{WrongMark, WrongVersion, CoefficientOutOfRange, InvalidCode}
+use Rattle.answers.specs.declared.KeyPart.{KeyPart}
+use Rattle.answers.specs.declared.KeyRecord.{KeyRecord}
+use Rattle.answers.specs.declared.KeyRecord.the-variants.{PublicKey, SeededPublicKey, SecretKey}
+use Rattle.answers.specs.declared.EncapsulationRecord.the-variants.{SealedEntry, Encapsulation}
+use Rattle.answers.specs.declared.Refusal.the-variants.{WrongMark, WrongVersion, InvalidCode}
 use Rattle.answers.specs.declared.Answer.the-variants.{Done}
 use Rattle.answers.specs.Answers.{refusalNumber, unless}
-use Rattle.records.specs.Layout.{seededKeyMark}
-use Rattle.records.specs.Records.{part, headerAnswer, wordsAnswer, codesAnswer, elementsAnswer, firstOf, secondOf, recordAnswer, seededB, seededRecordAnswer}
-use Rattle.records.specs.Records.{c1Of, c2Of, encapsulationAnswer}
+use Rattle.records.specs.Layout.{publicKeyMark, seededKeyMark, secretKeyMark, sealedEntryMark}
+use Rattle.records.specs.Records.{headerAnswer, aWord, bWord, c1Word, c2Word, wordsAnswer, codesAnswer, elementsAnswer, unreducedAnswer, firstOf, secondOf, recordAnswer}
+use Rattle.records.specs.Records.{publicFrontAnswer, secretFrontAnswer, sealedEntryAnswer, seededB, seededRecordAnswer, c1Of, c2Of, encapsulationAnswer}
 use Rattle.records.specs.WellFormed.{WellFormedFront}
 use Rattle.answers.proofs.AnswerLaws.{unless-done, then-done, Never, done-never, unless-never, then-never}
 
@@ -34,75 +38,105 @@ unfolding headerAnswer
 header-done mark version bytes =
     Iff·trans (unless-done (hasMark mark bytes) WrongMark _) (Iff·and Iff·rfl (equal-done (versionOf bytes) version WrongVersion))
 
-pub words-done : (a : List ℕ) → length a ≡ n → (wordsAnswer (firstUnreduced a) ≡ Done) ↔ Element a
+pub words-done : (a : List ℕ) (r : Refusal) → length a ≡ n → (wordsAnswer (firstUnreduced a) r ≡ Done) ↔ Element a
 unfolding wordsAnswer
-words-done a size = Iff·trans (equal-done (firstUnreduced a) n CoefficientOutOfRange) (unreduced-iff a size)
+words-done a r size = Iff·trans (equal-done (firstUnreduced a) n r) (unreduced-iff a size)
 
 pub codes-done : (bytes : List ℕ) → (codesAnswer bytes ≡ Done) ↔ (firstInvalidCode bytes ≡ 1024)
 unfolding codesAnswer
 codes-done bytes = equal-done (firstInvalidCode bytes) 1024 InvalidCode
 
-pub elements-done : (first second : List ℕ) → length first ≡ n → length second ≡ n
-    → (elementsAnswer (firstUnreduced first) (firstUnreduced second) ≡ Done) ↔ (Element first × Element second)
-unfolding elementsAnswer
-elements-done first second h1 h2 =
-    Iff·trans (then-done _ _) (Iff·and (words-done first h1) (words-done second h2))
+pub unreduced-done : (one other : ℕ → Refusal) (first second : List ℕ) → length first ≡ n → length second ≡ n
+    → (unreducedAnswer one other first second ≡ Done) ↔ (Element first × Element second)
+unfolding elementsAnswer unreducedAnswer
+unreduced-done one other first second h1 h2 =
+    Iff·trans (then-done _ _) (Iff·and (words-done first (one (firstUnreduced first)) h1) (words-done second (other (firstUnreduced second)) h2))
 
-pub record-done : (mark : List ℕ) (version : ℕ) (bytes : List ℕ) → (recordAnswer mark version bytes ≡ Done) ↔ WellFormedFront mark version bytes
+record-done : (mark : List ℕ) (version : ℕ) (one other : ℕ → Refusal) (bytes : List ℕ)
+    → (recordAnswer mark version one other bytes ≡ Done) ↔ WellFormedFront mark version bytes
 unfolding recordAnswer
-record-done mark version bytes =
+record-done mark version one other bytes =
     Iff·trans
     (Iff·trans (then-done _ _)
-    (Iff·and (header-done mark version bytes) (elements-done (firstOf bytes) (secondOf bytes) (length-elementOf _) (length-elementOf _)))) (
+    (Iff·and (header-done mark version bytes) (unreduced-done one other (firstOf bytes) (secondOf bytes) (length-elementOf _) (length-elementOf _)))) (
       λ ((m, v), (first, second)). record { has-mark = m; has-version = v; first-words = first; second-words = second },
       λ w. ((w .has-mark, w .has-version), (w .first-words, w .second-words)),
     )
+
+pub public-front-done : (bytes : List ℕ) → (publicFrontAnswer bytes ≡ Done) ↔ WellFormedFront publicKeyMark 1 bytes
+public-front-done = record-done publicKeyMark 1 (aWord PublicKey) (bWord PublicKey)
+
+pub secret-front-done : (bytes : List ℕ) → (secretFrontAnswer bytes ≡ Done) ↔ WellFormedFront secretKeyMark 1 bytes
+secret-front-done = record-done secretKeyMark 1 (aWord SecretKey) (bWord SecretKey)
+
+pub sealed-entry-done : (bytes : List ℕ) → (sealedEntryAnswer bytes ≡ Done) ↔ WellFormedFront sealedEntryMark 1 bytes
+sealed-entry-done = record-done sealedEntryMark 1 (c1Word SealedEntry) (c2Word SealedEntry)
 
 pub seeded-done : (bytes : List ℕ)
     → (seededRecordAnswer bytes ≡ Done) ↔ ((hasMark seededKeyMark bytes ≡ true) × (versionOf bytes ≡ 1) × Element (seededB bytes))
 unfolding seededRecordAnswer
 seeded-done bytes =
     Iff·trans
-    (Iff·trans (then-done _ _) (Iff·and (header-done seededKeyMark 1 bytes) (words-done (seededB bytes) (length-elementOf _))))
+    (Iff·trans (then-done _ _) (Iff·and (header-done seededKeyMark 1 bytes)
+    (words-done (seededB bytes) (bWord SeededPublicKey (firstUnreduced (seededB bytes))) (length-elementOf _))))
     (λ ((m, v), words). (m, v, words), λ (m, v, words). ((m, v), words))
 
 pub encapsulation-done : (bytes : List ℕ) → (encapsulationAnswer bytes ≡ Done) ↔ (Element (c1Of bytes) × Element (c2Of bytes))
-unfolding encapsulationAnswer
-encapsulation-done bytes = elements-done (c1Of bytes) (c2Of bytes) (length-elementOf _) (length-elementOf _)
+encapsulation-done bytes =
+    unreduced-done (c1Word Encapsulation) (c2Word Encapsulation) (c1Of bytes) (c2Of bytes) (length-elementOf _) (length-elementOf _)
 
--- ---- these checks say 2, 3, 4 and 5 only
+-- ---- which numbers these checks never say
 
-module _ {k : ℕ} (h : 5 < k) where
-  -- a test and nothing behind it
-  test-never : (t : Bool) (r : Refusal) → refusalNumber r ≤ 5 → Never k (unless t r Done)
-  test-never t r l = unless-never t r (λ e. omega arith) (done-never (omega arith))
+-- a test and nothing behind it
+test-never : {k : ℕ} → 0 < k → (t : Bool) (r : Refusal) → ¬ (refusalNumber r ≡ k) → Never k (unless t r Done)
+test-never some t r other = unless-never t r other (done-never some)
 
-  words-never : (place : ℕ) → Never k (wordsAnswer place)
-  unfolding wordsAnswer
-  words-never place = test-never (eqb place n) CoefficientOutOfRange (omega arith)
+pub header-never : {k : ℕ} → 3 < k → (mark : List ℕ) (version : ℕ) (bytes : List ℕ) → Never k (headerAnswer mark version bytes)
+unfolding headerAnswer
+header-never h mark version bytes =
+    unless-never (hasMark mark bytes) WrongMark (λ e. omega arith)
+    (test-never (omega arith) (eqb (versionOf bytes) version) WrongVersion (λ e. omega arith))
 
-  elements-never : (first second : ℕ) → Never k (elementsAnswer first second)
-  unfolding elementsAnswer
-  elements-never first second = then-never (words-never first) (words-never second)
+pub codes-never : {k : ℕ} → 0 < k → ¬ (5 ≡ k) → (bytes : List ℕ) → Never k (codesAnswer bytes)
+unfolding codesAnswer
+codes-never some other bytes = test-never some (eqb (firstInvalidCode bytes) 1024) InvalidCode other
 
-  pub codes-never : (bytes : List ℕ) → Never k (codesAnswer bytes)
-  unfolding codesAnswer
-  codes-never bytes = test-never (eqb (firstInvalidCode bytes) 1024) InvalidCode (omega arith)
+-- a word's refusal has another number
+pub words-never : {k : ℕ} → 0 < k → (place : ℕ) (r : Refusal) → ¬ (refusalNumber r ≡ k) → Never k (wordsAnswer place r)
+unfolding wordsAnswer
+words-never some place r other = test-never some (eqb place n) r other
 
-  header-never : (mark : List ℕ) (version : ℕ) (bytes : List ℕ) → Never k (headerAnswer mark version bytes)
-  unfolding headerAnswer
-  header-never mark version bytes =
-      unless-never (hasMark mark bytes) WrongMark (λ e. omega arith) (test-never (eqb (versionOf bytes) version) WrongVersion (omega arith))
+pub unreduced-never : {k : ℕ} → 0 < k → (one other : ℕ → Refusal) (first second : List ℕ)
+    → ((i : ℕ) → ¬ (refusalNumber (one i) ≡ k)) → ((i : ℕ) → ¬ (refusalNumber (other i) ≡ k)) → Never k (unreducedAnswer one other first second)
+unfolding elementsAnswer unreducedAnswer
+unreduced-never some one other first second not-one not-other = then-never (words-never some _ _ (not-one _)) (words-never some _ _ (not-other _))
 
-  pub record-never : (mark : List ℕ) (version : ℕ) (bytes : List ℕ) → Never k (recordAnswer mark version bytes)
-  unfolding recordAnswer
-  record-never mark version bytes =
-      then-never (header-never mark version bytes) (elements-never (firstUnreduced (firstOf bytes)) (firstUnreduced (secondOf bytes)))
+pub record-never : {k : ℕ} → 3 < k → (mark : List ℕ) (version : ℕ) (one other : ℕ → Refusal) (bytes : List ℕ)
+    → ((i : ℕ) → ¬ (refusalNumber (one i) ≡ k)) → ((i : ℕ) → ¬ (refusalNumber (other i) ≡ k)) → Never k (recordAnswer mark version one other bytes)
+unfolding recordAnswer
+record-never h mark version one other bytes not-one not-other =
+    then-never (header-never h mark version bytes) (unreduced-never (omega arith) one other (firstOf bytes) (secondOf bytes) not-one not-other)
 
-  pub seeded-never : (bytes : List ℕ) → Never k (seededRecordAnswer bytes)
-  unfolding seededRecordAnswer
-  seeded-never bytes = then-never (header-never seededKeyMark 1 bytes) (words-never (firstUnreduced (seededB bytes)))
+pub seeded-never : {k : ℕ} → 4 < k → (bytes : List ℕ) → Never k (seededRecordAnswer bytes)
+unfolding seededRecordAnswer
+seeded-never h bytes = then-never (header-never (omega arith) seededKeyMark 1 bytes) (words-never (omega arith) _ _ (λ e. omega arith))
 
-  pub encapsulation-never : (bytes : List ℕ) → Never k (encapsulationAnswer bytes)
-  unfolding encapsulationAnswer
-  encapsulation-never bytes = elements-never (firstUnreduced (c1Of bytes)) (firstUnreduced (c2Of bytes))
+-- a key's words are refused under 4
+key-record-never : {k : ℕ} → 4 < k → (mark : List ℕ) (version : ℕ) (key : KeyPart → KeyRecord) (bytes : List ℕ)
+    → Never k (recordAnswer mark version (aWord key) (bWord key) bytes)
+key-record-never h mark version key bytes =
+    record-never (omega arith) mark version (aWord key) (bWord key) bytes (λ i e. omega arith) (λ i e. omega arith)
+
+pub public-front-never : {k : ℕ} → 4 < k → (bytes : List ℕ) → Never k (publicFrontAnswer bytes)
+public-front-never h = key-record-never h publicKeyMark 1 PublicKey
+
+pub secret-front-never : {k : ℕ} → 4 < k → (bytes : List ℕ) → Never k (secretFrontAnswer bytes)
+secret-front-never h = key-record-never h secretKeyMark 1 SecretKey
+
+-- the words of what is sealed to a key are refused under 11
+pub sealed-entry-never : {k : ℕ} → 3 < k → ¬ (11 ≡ k) → (bytes : List ℕ) → Never k (sealedEntryAnswer bytes)
+sealed-entry-never h other bytes = record-never h sealedEntryMark 1 (c1Word SealedEntry) (c2Word SealedEntry) bytes (λ i e. other e) (λ i e. other e)
+
+pub encapsulation-never : {k : ℕ} → 0 < k → ¬ (11 ≡ k) → (bytes : List ℕ) → Never k (encapsulationAnswer bytes)
+encapsulation-never some other bytes =
+    unreduced-never some (c1Word Encapsulation) (c2Word Encapsulation) (c1Of bytes) (c2Of bytes) (λ i e. other e) (λ i e. other e)

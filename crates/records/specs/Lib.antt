@@ -4,3 +4,5 @@ pub mod Records
 pub mod Read
 -- when they are well formed
 pub mod WellFormed
+-- the word that an answer names
+pub mod Named

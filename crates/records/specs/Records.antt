@@ -1,5 +1,5 @@
--- The records of document 01 ("Bytes") and of document 02, No. 2: their parts, what their checks answer and in which order, and what
--- their writers write.
+-- The records of document 01 ("Bytes") and of document 02, No. 2: their parts, what their checks answer and in which order (No. 3 names
+-- the first word that is q or more), and what their writers write.
 use mathlib.Core.List.{List, _++_}
 use Prim.Native.Nat.{ℕ}
 use lib.Dec.{eqb}
@@ -8,7 +8,16 @@ use Rattle.ring.specs.Ring.{n}
 use Rattle.encoding.specs.Words.{elementOf, firstUnreduced, elementBytes}
 use Rattle.encoding.specs.Codes.{ternaryOf, firstInvalidCode, ternaryBytes}
 use Rattle.encoding.specs.Header.{hasMark, versionOf, header}
-use Rattle.answers.specs.declared.Refusal.the-variants.{WrongMark, WrongVersion, CoefficientOutOfRange, InvalidCode}
+use Rattle.answers.specs.declared.KeyPart.{KeyPart}
+use Rattle.answers.specs.declared.KeyPart.the-variants.{A, B}
+use Rattle.answers.specs.declared.KeyRecord.{KeyRecord}
+use Rattle.answers.specs.declared.KeyRecord.the-variants.{PublicKey, SeededPublicKey, SecretKey}
+use Rattle.answers.specs.declared.EncapsulationPart.{EncapsulationPart}
+use Rattle.answers.specs.declared.EncapsulationPart.the-variants.{C1, C2}
+use Rattle.answers.specs.declared.EncapsulationRecord.{EncapsulationRecord}
+use Rattle.answers.specs.declared.EncapsulationRecord.the-variants.{SealedEntry, Encapsulation}
+use Rattle.answers.specs.declared.Refusal.{Refusal}
+use Rattle.answers.specs.declared.Refusal.the-variants.{WrongMark, WrongVersion, KeyOutOfRange, InvalidCode, EncapsulationOutOfRange}
 use Rattle.answers.specs.declared.Answer.{Answer}
 use Rattle.answers.specs.declared.Answer.the-variants.{Done}
 use Rattle.answers.specs.Answers.{unless, andThen}
@@ -25,13 +34,31 @@ part i k bytes = take k (drop i bytes)
 unfoldable pub headerAnswer : (mark : List ℕ) (version : ℕ) (bytes : List ℕ) → Answer
 headerAnswer mark version bytes = unless (hasMark mark bytes) WrongMark (unless (eqb (versionOf bytes) version) WrongVersion Done)
 
--- 4, from the place of an element's first word that is q or more
-unfoldable pub wordsAnswer : ℕ → Answer
-wordsAnswer place = unless (eqb place n) CoefficientOutOfRange Done
+-- 4 and 11 name word i of a part
+abbrev pub aWord : (KeyPart → KeyRecord) → ℕ → Refusal
+aWord key i = KeyOutOfRange (key (A i))
+
+abbrev pub bWord : (KeyPart → KeyRecord) → ℕ → Refusal
+bWord key i = KeyOutOfRange (key (B i))
+
+abbrev pub c1Word : (EncapsulationPart → EncapsulationRecord) → ℕ → Refusal
+c1Word capsule i = EncapsulationOutOfRange (capsule (C1 i))
+
+abbrev pub c2Word : (EncapsulationPart → EncapsulationRecord) → ℕ → Refusal
+c2Word capsule i = EncapsulationOutOfRange (capsule (C2 i))
+
+-- from the place of an element's first word that is q or more; `refusal` names that word
+unfoldable pub wordsAnswer : (place : ℕ) (refusal : Refusal) → Answer
+wordsAnswer place refusal = unless (eqb place n) refusal Done
 
 -- .. of two elements
-unfoldable pub elementsAnswer : (first second : ℕ) → Answer
-elementsAnswer first second = andThen (wordsAnswer first) (wordsAnswer second)
+unfoldable pub elementsAnswer : (first second : ℕ) (one other : Refusal) → Answer
+elementsAnswer first second one other = andThen (wordsAnswer first one) (wordsAnswer second other)
+
+-- the first word of each element that is q or more, by the refusals that name word i of them
+unfoldable pub unreducedAnswer : (one other : ℕ → Refusal) (first second : List ℕ) → Answer
+unreducedAnswer one other first second =
+    elementsAnswer (firstUnreduced first) (firstUnreduced second) (one (firstUnreduced first)) (other (firstUnreduced second))
 
 -- 5, from the place of the first code 3
 unfoldable pub codesAnswer : List ℕ → Answer
@@ -47,10 +74,18 @@ firstOf bytes = elementOf (part firstPlace elementLength bytes)
 abbrev pub secondOf : List ℕ → List ℕ
 secondOf bytes = elementOf (part secondPlace elementLength bytes)
 
--- 2, 3, then 4
-unfoldable pub recordAnswer : (mark : List ℕ) (version : ℕ) (bytes : List ℕ) → Answer
-recordAnswer mark version bytes =
-    andThen (headerAnswer mark version bytes) (elementsAnswer (firstUnreduced (firstOf bytes)) (firstUnreduced (secondOf bytes)))
+-- 2, 3, then 4 or 11
+unfoldable pub recordAnswer : (mark : List ℕ) (version : ℕ) (one other : ℕ → Refusal) (bytes : List ℕ) → Answer
+recordAnswer mark version one other bytes = andThen (headerAnswer mark version bytes) (unreducedAnswer one other (firstOf bytes) (secondOf bytes))
+
+abbrev pub publicFrontAnswer : List ℕ → Answer
+publicFrontAnswer bytes = recordAnswer publicKeyMark 1 (aWord PublicKey) (bWord PublicKey) bytes
+
+abbrev pub secretFrontAnswer : List ℕ → Answer
+secretFrontAnswer bytes = recordAnswer secretKeyMark 1 (aWord SecretKey) (bWord SecretKey) bytes
+
+abbrev pub sealedEntryAnswer : List ℕ → Answer
+sealedEntryAnswer bytes = recordAnswer sealedEntryMark 1 (c1Word SealedEntry) (c2Word SealedEntry) bytes
 
 -- what stands in front of the other parts of these records
 unfoldable pub recordBytes : (mark : List ℕ) (version : ℕ) (first second : List ℕ) → List ℕ
@@ -89,7 +124,8 @@ seededB bytes = elementOf (part seededBPlace elementLength bytes)
 
 -- 2, 3, then 4
 unfoldable pub seededRecordAnswer : List ℕ → Answer
-seededRecordAnswer bytes = andThen (headerAnswer seededKeyMark 1 bytes) (wordsAnswer (firstUnreduced (seededB bytes)))
+seededRecordAnswer bytes =
+    andThen (headerAnswer seededKeyMark 1 bytes) (wordsAnswer (firstUnreduced (seededB bytes)) (bWord SeededPublicKey (firstUnreduced (seededB bytes))))
 
 unfoldable pub seededKeyBytes : (seed b : List ℕ) → List ℕ
 seededKeyBytes seed b = header seededKeyMark 1 ++ seed ++ elementBytes b
@@ -102,8 +138,9 @@ c1Of bytes = elementOf (part 0 elementLength bytes)
 abbrev pub c2Of : List ℕ → List ℕ
 c2Of bytes = elementOf (part elementLength elementLength bytes)
 
-unfoldable pub encapsulationAnswer : List ℕ → Answer
-encapsulationAnswer bytes = elementsAnswer (firstUnreduced (c1Of bytes)) (firstUnreduced (c2Of bytes))
+-- 11
+abbrev pub encapsulationAnswer : List ℕ → Answer
+encapsulationAnswer bytes = unreducedAnswer (c1Word Encapsulation) (c2Word Encapsulation) (c1Of bytes) (c2Of bytes)
 
 unfoldable pub encapsulationBytes : (c1 c2 : List ℕ) → List ℕ
 encapsulationBytes c1 c2 = elementBytes c1 ++ elementBytes c2

@@ -16,8 +16,8 @@ ghost use Prim.Native.Nat.{_≤_};
 ghost use lib.ListN.{length, drop};
 ghost use Rattle.encoding.specs.Words.{firstUnreduced};
 ghost use Rattle.records.specs.Layout.{publicKeyLength, secretKeyLength, thirdPlace};
-ghost use Rattle.records.specs.Records.{headerAnswer, wordsAnswer, codesAnswer, elementsAnswer, firstOf, secondOf, recordBytes, publicKeyBytes, secretKeyBytes};
-ghost use Rattle.records.specs.Read.{frontOf};
+ghost use Rattle.records.specs.Records.{headerAnswer, wordsAnswer, codesAnswer, firstOf, secondOf, recordBytes, publicKeyBytes, secretKeyBytes};
+ghost use Rattle.records.specs.Read.{wordsOf, frontOf};
 
 // ---- layout: marks, places and lengths
 
@@ -73,11 +73,11 @@ pub fn check_header(bytes: &[u8], mark: [u8; MARK_LENGTH], version: u16) -> Answ
     Answer::Done
 }
 
-// What the place of the first word that is q or more is answered by.
-pub fn words_answer(place: usize) -> Answer
-    ensures { λ a. ⌜ a ≡ wordsAnswer place ⌝ }
+// What an element's words are answered by, from the place of its first that is q or more; `refusal` names that word.
+pub fn words_answer(place: usize, refusal: Refusal) -> Answer
+    ensures { λ a. ⌜ a ≡ wordsAnswer place refusal ⌝ }
 {
-    answers::unless(place == DEGREE, Refusal::CoefficientOutOfRange)
+    answers::unless(place == DEGREE, refusal)
 }
 
 // The place of the first word that is q or more in each of two elements, 1,024 where there is none.
@@ -86,12 +86,12 @@ pub struct Places {
     pub second: usize,
 }
 
-// What they are answered by.
-pub fn elements_answer(unreduced: Places) -> Answer
-    ensures { λ a. ⌜ a ≡ elementsAnswer (unreduced .first) (unreduced .second) ⌝ }
+// What the words of both are answered by; `first` and `second` name the words at these places.
+pub fn elements_answer(unreduced: Places, first: Refusal, second: Refusal) -> Answer
+    ensures { λ a. ⌜ a ≡ wordsOf unreduced first second ⌝ }
 {
-    let one = words_answer(unreduced.first);
-    let other = words_answer(unreduced.second);
+    let one = words_answer(unreduced.first, first);
+    let other = words_answer(unreduced.second, second);
     answers::and_then(one, other)
 }
 
@@ -135,13 +135,13 @@ pub fn read_record(bytes: &[u8], mark: [u8; MARK_LENGTH], version: u16) -> Eleme
     }
 }
 
-// What the checks of a record's front answer: mark, version, then words.
-pub fn front_answer(read: Elements) -> Answer
-    ensures { λ a. ⌜ a ≡ frontOf read ⌝ }
+// What the checks of a record's front answer: mark, version, then words, which `first` and `second` name.
+pub fn front_answer(read: Elements, first: Refusal, second: Refusal) -> Answer
+    ensures { λ a. ⌜ a ≡ frontOf read first second ⌝ }
 {
     let header = read.header;
     let unreduced = read.unreduced;
-    let elements = elements_answer(unreduced);
+    let elements = elements_answer(unreduced, first, second);
     answers::and_then(header, elements)
 }
 

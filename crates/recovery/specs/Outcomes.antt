@@ -9,7 +9,6 @@ use Rattle.scheme.specs.Answers as Struct
 use Rattle.scheme.specs.declared.Triple as Declared
 use Rattle.derivation.specs.Derivation.{verifiedEntry}
 use Rattle.answers.specs.declared.Answer.{Answer}
-use Rattle.records.specs.declared.Elements.{Elements}
 use Rattle.answers.specs.Answers.{andThen}
 use Rattle.keys.specs.declared.SecretKey.{SecretKey}
 use Rattle.calls.specs.Calls.{outcomeAnswer, openedAnswer}
@@ -22,13 +21,12 @@ abbrev pub answered : Outcome → Triple
 answered (found t) = t
 answered failed = record { r = zeros n; e1 = zeros n; e2 = zeros n }
 
--- ---- by a key that was read, of a front that was read
+-- ---- by a key that was read, of an encapsulation that was read
 
 -- what is found; key and inverse are given by their spectra
-abbrev pub outcomeBy : (key : SecretKey) (inverse : List ℕ) (dummy : Declared.Triple) (read : Elements) → Outcome
-outcomeBy key inverse dummy read =
-    decapsulation (coefficientsOf (key .a)) (coefficientsOf (key .b)) (coefficientsOf inverse)
-    (coefficientsOf (key .s)) (asTriple dummy) (read .first) (read .second)
+abbrev pub outcomeBy : (key : SecretKey) (inverse : List ℕ) (dummy : Declared.Triple) (c1 c2 : List ℕ) → Outcome
+outcomeBy key inverse dummy c1 c2 =
+    decapsulation (coefficientsOf (key .a)) (coefficientsOf (key .b)) (coefficientsOf inverse) (coefficientsOf (key .s)) (asTriple dummy) c1 c2
 
 -- 9 behind the answers to key, encapsulation and dummy
 abbrev pub decapsulatedBy : (key encapsulation dummy : Answer) (o : Outcome) → Answer

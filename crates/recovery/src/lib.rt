@@ -5,13 +5,12 @@ use answers::Refusal;
 use keys::SecretKey;
 use ntt::Spectrum;
 use octets::BLOCK_LENGTH;
-use records::Elements;
 use scheme::Encapsulation;
 use scheme::Triple;
+use sealed_records::BareEncapsulation;
 use sealed_records::SealedEntry;
 ghost use mathlib.Core.Path.{_≡_};
 ghost use Rattle.ntt.specs.Factors.{forwardFactors, backwardFactors};
-ghost use Rattle.records.specs.Read.{frontOf};
 ghost use Rattle.recovery.specs.Outcomes.{asTriple, answered, outcomeBy, decapsulatedBy, openedBy, verifiedBy};
 
 // ---- an encapsulation
@@ -26,23 +25,23 @@ pub struct Decapsulated {
 pub fn find_triple(
     key: SecretKey,
     inverse: Spectrum,
-    c: Elements,
+    c: BareEncapsulation,
     codes: Answer,
     dummy: Triple,
     forward: &[u16],
     backward: &[u16],
 ) -> Decapsulated
     requires { ⌜ (now forward ≡ forwardFactors) × (now backward ≡ backwardFactors) ⌝ }
-    ensures { λ d. ⌜ d .answer ≡ decapsulatedBy (key .answer) (frontOf c) codes (outcomeBy key inverse dummy c) ⌝ }
-    ensures { λ d. ⌜ asTriple (d .triple) ≡ answered (outcomeBy key inverse dummy c) ⌝ }
+    ensures { λ d. ⌜ d .answer ≡ decapsulatedBy (key .answer) (c .answer) codes (outcomeBy key inverse dummy (c .c1) (c .c2)) ⌝ }
+    ensures { λ d. ⌜ asTriple (d .triple) ≡ answered (outcomeBy key inverse dummy (c .c1) (c .c2)) ⌝ }
 {
     let checked = key.answer;
     let a = key.a;
     let b = key.b;
     let s = key.s;
-    let words = records::front_answer(c);
-    let c1 = c.first;
-    let c2 = c.second;
+    let words = c.answer;
+    let c1 = c.c1;
+    let c2 = c.c2;
     let d = scheme::decapsulate(
         a,
         b,
@@ -80,17 +79,16 @@ pub fn recover_entry(
     backward: &[u16],
 ) -> Opened
     requires { ⌜ (now forward ≡ forwardFactors) × (now backward ≡ backwardFactors) ⌝ }
-    ensures { λ o. ⌜ o .answer ≡ openedBy (key .answer) (frontOf (sealed .front)) (outcomeBy key inverse dummy (sealed .front)) (sealed .body) (sealed .tag) ⌝ }
-    ensures { λ o. ⌜ o .entry ≡ verifiedBy (outcomeBy key inverse dummy (sealed .front)) (sealed .body) (sealed .tag) ⌝ }
+    ensures { λ o. ⌜ o .answer ≡ openedBy (key .answer) (sealed .answer) (outcomeBy key inverse dummy (sealed .c1) (sealed .c2)) (sealed .body) (sealed .tag) ⌝ }
+    ensures { λ o. ⌜ o .entry ≡ verifiedBy (outcomeBy key inverse dummy (sealed .c1) (sealed .c2)) (sealed .body) (sealed .tag) ⌝ }
 {
     let checked = key.answer;
     let a = key.a;
     let b = key.b;
     let s = key.s;
-    let front = sealed.front;
-    let record = records::front_answer(front);
-    let c1 = front.first;
-    let c2 = front.second;
+    let record = sealed.answer;
+    let c1 = sealed.c1;
+    let c2 = sealed.c2;
     let body = sealed.body;
     let tag = sealed.tag;
     let d = scheme::decapsulate(

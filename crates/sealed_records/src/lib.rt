@@ -1,6 +1,9 @@
 // What is sealed to a key, as bytes: sealed entries and encapsulations, read and written.
 // The calls test every length first, so the functions here are lent buffers of the record's length.
 use answers::Answer;
+use answers::EncapsulationPart;
+use answers::EncapsulationRecord;
+use answers::Refusal;
 use encoding::ELEMENT_LENGTH;
 use ntt::Element;
 use octets::BLOCK_LENGTH;
@@ -13,29 +16,51 @@ use records::TAG;
 use records::THIRD;
 ghost use mathlib.Core.Path.{_≡_};
 ghost use lib.ListN.{length};
-ghost use Rattle.encoding.specs.Words.{firstUnreduced};
-ghost use Rattle.answers.specs.declared.Answer.the-variants.{Done};
+ghost use Rattle.answers.specs.declared.EncapsulationRecord.the-variants as Kind;
 ghost use Rattle.records.specs.Layout.{sealedEntryMark, sealedEntryLength, encapsulationLength};
-ghost use Rattle.records.specs.Records.{headerAnswer, firstOf, secondOf, bodyPart, tagPart, sealedEntryBytes, c1Of, c2Of, encapsulationBytes};
+ghost use Rattle.records.specs.Records.{c1Word, c2Word, firstOf, secondOf, bodyPart, tagPart, sealedEntryAnswer, sealedEntryBytes};
+ghost use Rattle.records.specs.Records.{c1Of, c2Of, encapsulationAnswer, encapsulationBytes};
+ghost use Rattle.records.specs.Read.{wordsOf, frontOf};
 
 // ---- sealed entries
 
-// A sealed entry, what its front holds and is answered by, and its body and tag.
+// What the front of a sealed entry is answered by; its first word that is q or more is named.
+fn front_answer(read: Elements) -> Answer
+    ensures { λ a. ⌜ a ≡ frontOf read (c1Word Kind.SealedEntry (read .unreduced .first)) (c2Word Kind.SealedEntry (read .unreduced .second)) ⌝ }
+{
+    let at = read.unreduced;
+    let c1 = EncapsulationRecord::SealedEntry(EncapsulationPart::C1(at.first));
+    let c2 = EncapsulationRecord::SealedEntry(EncapsulationPart::C2(at.second));
+    records::front_answer(
+        read,
+        Refusal::EncapsulationOutOfRange(c1),
+        Refusal::EncapsulationOutOfRange(c2),
+    )
+}
+
+// What the checks of a sealed entry answer, and its parts.
 pub struct SealedEntry {
-    pub front: Elements,
+    pub answer: Answer,
+    pub c1: Element,
+    pub c2: Element,
     pub body: [u8; BLOCK_LENGTH],
     pub tag: [u8; BLOCK_LENGTH],
 }
 
 pub fn read_sealed_entry(bytes: &[u8]) -> SealedEntry
     requires { ⌜ length (now bytes) ≡ sealedEntryLength ⌝ }
-    ensures { λ r. ⌜ r .front .header ≡ headerAnswer sealedEntryMark 1 (now (bytes .entry)) ⌝ }
-    ensures { λ r. ⌜ (r .front .first ≡ firstOf (now (bytes .entry))) × (r .front .second ≡ secondOf (now (bytes .entry))) ⌝ }
-    ensures { λ r. ⌜ (r .front .unreduced .first ≡ firstUnreduced (firstOf (now (bytes .entry)))) × (r .front .unreduced .second ≡ firstUnreduced (secondOf (now (bytes .entry)))) ⌝ }
+    ensures { λ r. ⌜ r .answer ≡ sealedEntryAnswer (now (bytes .entry)) ⌝ }
+    ensures { λ r. ⌜ (r .c1 ≡ firstOf (now (bytes .entry))) × (r .c2 ≡ secondOf (now (bytes .entry))) ⌝ }
     ensures { λ r. ⌜ (r .body ≡ bodyPart (now (bytes .entry))) × (r .tag ≡ tagPart (now (bytes .entry))) ⌝ }
 {
+    let read = records::read_record(bytes, SEALED_ENTRY_MARK, 1);
+    let answer = front_answer(read);
+    let c1 = read.first;
+    let c2 = read.second;
     SealedEntry {
-        front: records::read_record(bytes, SEALED_ENTRY_MARK, 1),
+        answer,
+        c1,
+        c2,
         body: octets::read_block(&bytes[THIRD..TAG]),
         tag: octets::read_block(&bytes[TAG..SEALED_ENTRY_LENGTH]),
     }
@@ -58,23 +83,41 @@ pub fn write_sealed_entry(
 
 // ---- encapsulations
 
-// Mark and version are none, and so Done.
-pub fn read_encapsulation(bytes: &[u8]) -> Elements
-    requires { ⌜ length (now bytes) ≡ encapsulationLength ⌝ }
-    ensures { λ r. ⌜ r .header ≡ Done ⌝ }
-    ensures { λ r. ⌜ (r .first ≡ c1Of (now (bytes .entry))) × (r .second ≡ c2Of (now (bytes .entry))) ⌝ }
-    ensures { λ r. ⌜ (r .unreduced .first ≡ firstUnreduced (c1Of (now (bytes .entry)))) × (r .unreduced .second ≡ firstUnreduced (c2Of (now (bytes .entry)))) ⌝ }
+// What the words of an encapsulation are answered by; the first that is q or more is named.
+fn words_answer(at: Places) -> Answer
+    ensures { λ a. ⌜ a ≡ wordsOf at (c1Word Kind.Encapsulation (at .first)) (c2Word Kind.Encapsulation (at .second)) ⌝ }
 {
-    let first = encoding::decode_element(&bytes[0..ELEMENT_LENGTH]);
-    let second = encoding::decode_element(&bytes[ELEMENT_LENGTH..ENCAPSULATION_LENGTH]);
-    Elements {
-        header: Answer::Done,
-        first,
-        second,
-        unreduced: Places {
-            first: encoding::first_unreduced(first),
-            second: encoding::first_unreduced(second),
-        },
+    let c1 = EncapsulationRecord::Encapsulation(EncapsulationPart::C1(at.first));
+    let c2 = EncapsulationRecord::Encapsulation(EncapsulationPart::C2(at.second));
+    records::elements_answer(
+        at,
+        Refusal::EncapsulationOutOfRange(c1),
+        Refusal::EncapsulationOutOfRange(c2),
+    )
+}
+
+// What the checks of an encapsulation answer, and its parts.
+pub struct BareEncapsulation {
+    pub answer: Answer,
+    pub c1: Element,
+    pub c2: Element,
+}
+
+pub fn read_encapsulation(bytes: &[u8]) -> BareEncapsulation
+    requires { ⌜ length (now bytes) ≡ encapsulationLength ⌝ }
+    ensures { λ r. ⌜ r .answer ≡ encapsulationAnswer (now (bytes .entry)) ⌝ }
+    ensures { λ r. ⌜ (r .c1 ≡ c1Of (now (bytes .entry))) × (r .c2 ≡ c2Of (now (bytes .entry))) ⌝ }
+{
+    let c1 = encoding::decode_element(&bytes[0..ELEMENT_LENGTH]);
+    let c2 = encoding::decode_element(&bytes[ELEMENT_LENGTH..ENCAPSULATION_LENGTH]);
+    let unreduced = Places {
+        first: encoding::first_unreduced(c1),
+        second: encoding::first_unreduced(c2),
+    };
+    BareEncapsulation {
+        answer: words_answer(unreduced),
+        c1,
+        c2,
     }
 }
 

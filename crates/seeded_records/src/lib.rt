@@ -1,6 +1,9 @@
 // Seeded public keys as bytes: document 02, No. 2.
 // The calls test every length first, so the functions here are lent buffers of the record's length.
 use answers::Answer;
+use answers::KeyPart;
+use answers::KeyRecord;
+use answers::Refusal;
 use ntt::Element;
 use records::SEED;
 use records::SEEDED_B;
@@ -9,9 +12,10 @@ use records::SEEDED_KEY_MARK;
 ghost use mathlib.Core.Path.{_≡_};
 ghost use lib.ListN.{length};
 ghost use Rattle.encoding.specs.Words.{firstUnreduced};
+ghost use Rattle.answers.specs.declared.KeyRecord.the-variants.{SeededPublicKey};
 ghost use Rattle.answers.specs.Answers.{andThen};
 ghost use Rattle.records.specs.Layout.{seededKeyMark, seedLength, seededKeyLength};
-ghost use Rattle.records.specs.Records.{headerAnswer, wordsAnswer, seededB, seededKeyBytes};
+ghost use Rattle.records.specs.Records.{headerAnswer, bWord, wordsAnswer, seededB, seededKeyBytes};
 
 // What mark and version are answered by, b, and the place of its first word that is q or more. The seed stays where it is lent.
 pub struct SeededKey {
@@ -33,12 +37,14 @@ pub fn read_seeded_key(bytes: &[u8]) -> SeededKey
     }
 }
 
-// What the checks of the record answer: mark, version, then words.
+// What the checks of the record answer: mark, version, then words, of which the first that is q or more is named.
 pub fn record_answer(read: SeededKey) -> Answer
-    ensures { λ a. ⌜ a ≡ andThen (read .header) (wordsAnswer (read .unreduced)) ⌝ }
+    ensures { λ a. ⌜ a ≡ andThen (read .header) (wordsAnswer (read .unreduced) (bWord SeededPublicKey (read .unreduced))) ⌝ }
 {
     let header = read.header;
-    let words = records::words_answer(read.unreduced);
+    let at = read.unreduced;
+    let b = Refusal::KeyOutOfRange(KeyRecord::SeededPublicKey(KeyPart::B(at)));
+    let words = records::words_answer(at, b);
     answers::and_then(header, words)
 }
 

@@ -21,7 +21,8 @@ triple-done bytes =
     (λ (r, (e1, e2)). (r, e1, e2), λ (r, e1, e2). (r, (e1, e2)))
 
 -- it says 5 only
-pub triple-never : {k : ℕ} → 5 < k → (bytes : List ℕ) → Never k (tripleAnswer bytes)
+pub triple-never : {k : ℕ} → 0 < k → ¬ (5 ≡ k) → (bytes : List ℕ) → Never k (tripleAnswer bytes)
 unfolding tripleAnswer
-triple-never h bytes =
-    then-never (codes-never h (part 0 256 bytes)) (then-never (codes-never h (part 256 256 bytes)) (codes-never h (part 512 256 bytes)))
+triple-never some other bytes =
+    then-never (codes-never some other (part 0 256 bytes))
+    (then-never (codes-never some other (part 256 256 bytes)) (codes-never some other (part 512 256 bytes)))

@@ -1,5 +1,7 @@
 use denote.Ref.{now}
+use Rattle.answers.specs.declared.KeyRecord.the-variants.{SecretKey}
 use Rattle.records.specs.Layout.{secretKeyMark}
+use Rattle.records.specs.Records.{aWord, bWord}
 use Rattle.records.proofs.Checks.{front-checked}
 use mathlib.Core.Path.{ap, ap₂, _∙_}
 use Rattle.ntt.specs.Spectrum.{spectrumOf}
@@ -61,7 +63,7 @@ returns c =
     let decoded = made .before in
     let checked = decoded .before .before .before .before .before .before in
     let (header, ((a, b), places)) = checked .before .read-record .ensures in
-    let front = front-checked secretKeyMark 1 (now (checked .before .before .before .before .before .args .bytes)) header places (checked .front-answer .ensures) in
+    let front = front-checked secretKeyMark 1 (aWord SecretKey) (bWord SecretKey) (now (checked .before .before .before .before .before .args .bytes)) header places (checked .front-answer .ensures) in
     let s = decoded .decode-ternary .ensures in
     let key = made .check-key .ensures in
     let check = key .0 ∙ ap-three keyCheck a b s in (

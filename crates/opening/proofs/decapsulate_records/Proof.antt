@@ -1,6 +1,5 @@
 use mathlib.Core.Path.{refl, ap, _∙_}
 use denote.Ref.{now}
-use Rattle.records.proofs.Checks.{words-checked}
 use Rattle.recovery.specs.Outcomes.{answered}
 use Rattle.ntt.proofs.Factors.{forward-size, backward-size}
 use Rattle.opening.proofs.Laws.{read-sized, outcome-by, decapsulated-by}
@@ -53,11 +52,11 @@ returns c =
     let key = inverse .before .before in
     let (answer, ((a, b), s)) = key .read-secret-key .ensures in
     let args = key .before .before .before .before .before .before .before .before .before .before .args in
-    let (header, (elements, places)) = words .read-encapsulation .ensures in
+    let (record, elements) = words .read-encapsulation .ensures in
     let o =
-    outcome-by (key .read-secret-key .result) _ (dummy .read-triple .result) (words .read-encapsulation .result) (read-sized (now (args .key))) a b s (inverse .reciprocals .ensures) (dummy .read-triple .ensures) (elements .0) (elements .1) in (
+    outcome-by (key .read-secret-key .result) _ (dummy .read-triple .result) (words .read-encapsulation .result .c1) (words .read-encapsulation .result .c2) (read-sized (now (args .key))) a b s (inverse .reciprocals .ensures) (dummy .read-triple .ensures) (elements .0) (elements .1) in (
       c .find-triple .ensures .0
-          ∙ decapsulated-by answer (words-checked (now (args .encapsulation)) header places refl) (codes .check-triple .ensures) o,
+          ∙ decapsulated-by answer record (codes .check-triple .ensures) o,
       c .find-triple .ensures .1 ∙ ap answered o,
     )
 

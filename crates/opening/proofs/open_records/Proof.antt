@@ -1,7 +1,5 @@
 use mathlib.Core.Path.{refl, _∙_}
 use denote.Ref.{now}
-use Rattle.records.specs.Layout.{sealedEntryMark}
-use Rattle.records.proofs.Checks.{front-checked}
 use Rattle.ntt.proofs.Factors.{forward-size, backward-size}
 use Rattle.opening.proofs.Laws.{read-sized, outcome-by, opened-by, verified-by}
 use borrow.Author.Needs.{needs}
@@ -49,11 +47,11 @@ returns c =
     let key = inverse .before .before in
     let (answer, ((a, b), s)) = key .read-secret-key .ensures in
     let args = key .before .before .before .before .before .before .before .before .before .before .args in
-    let (header, (elements, (places, (body, tag)))) = read .read-sealed-entry .ensures in
+    let (record, (elements, (body, tag))) = read .read-sealed-entry .ensures in
     let o =
-    outcome-by (key .read-secret-key .result) _ (dummy .noise-triple .result) (read .read-sealed-entry .result .front) (read-sized (now (args .key))) a b s (inverse .reciprocals .ensures) (dummy .noise-triple .ensures) (elements .0) (elements .1) in (
+    outcome-by (key .read-secret-key .result) _ (dummy .noise-triple .result) (read .read-sealed-entry .result .c1) (read .read-sealed-entry .result .c2) (read-sized (now (args .key))) a b s (inverse .reciprocals .ensures) (dummy .noise-triple .ensures) (elements .0) (elements .1) in (
       c .recover-entry .ensures .0
-          ∙ opened-by answer (front-checked sealedEntryMark 1 (now (args .sealed)) header places refl) o body tag,
+          ∙ opened-by answer record o body tag,
       c .recover-entry .ensures .1 ∙ verified-by o body tag,
     )
 

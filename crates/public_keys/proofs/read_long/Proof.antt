@@ -6,8 +6,9 @@ use native.Mathlib.Omega.{arith}
 use denote.Ref.{now}
 use lib.ListN.{length}
 use borrow.Author.Tests.{ne-eqb}
+use Rattle.answers.specs.declared.KeyRecord.the-variants.{PublicKey}
 use Rattle.records.specs.Layout.{publicKeyMark, publicKeyLength, seededKeyLength}
-use Rattle.records.specs.Records.{headerAnswer}
+use Rattle.records.specs.Records.{aWord, bWord, headerAnswer}
 use Rattle.records.proofs.Checks.{front-checked}
 use Rattle.records.proofs.Writing.{argument-is}
 use Rattle.public_keys.specs.PublicKeys.{seeded?}
@@ -32,7 +33,7 @@ returns c =
     let kind : seeded? k ≡ false = ne-eqb (length k) seededKeyLength (λ e. omega arith) in
     let (header, (elements, places)) = read .read-record .ensures in
     let marked = argument-is (λ (mark : List ℕ). headerAnswer mark 1 k) _ publicKeyMark header refl in (
-      (front-checked publicKeyMark 1 k marked places (judged .front-answer .ensures) ∙ sym (long-record k kind), sym (long-stream k kind)),
+      (front-checked publicKeyMark 1 (aWord PublicKey) (bWord PublicKey) k marked places (judged .front-answer .ensures) ∙ sym (long-record k kind), sym (long-stream k kind)),
       (elements .0 ∙ sym (long-a k kind), elements .1 ∙ sym (long-b k kind)),
     )
 

@@ -12,8 +12,8 @@ use borrow.Author.Needs.{needs}
 use Rattle.public_keys.proofs.read_public_key.Statement.{statement}
 use Rattle.public_keys.proofs.read_public_key.Tie as tie
 
-read-elements-requires : tie.Need-read-elements-requires
-read-elements-requires c κs = search needs
+read-parts-requires : tie.Need-read-parts-requires
+read-parts-requires c κs = search needs
 
 public-key-requires : tie.Need-public-key-requires
 public-key-requires c κs = search needs
@@ -33,7 +33,7 @@ returns c =
     let judged = c .before in
     let made = judged .before .before .before .before in
     let read = made .before .before .before in
-    let ((record-answer, stream), (a, b)) = read .read-elements .ensures in
+    let ((record-answer, stream), (a, b)) = read .read-parts .ensures in
     let key = made .public-key .ensures in
     let invertible = judged .before .unless .ensures ∙ ap (λ (x : Bool). unless x NotInvertible Done) (key .2 ∙ ap (λ (x : List ℕ). decide (invertible? x)) b) in (
       c .and-then2 .ensures ∙ ap₂ andThen record-answer (judged .and-then .ensures ∙ ap₂ andThen stream invertible),
@@ -44,7 +44,7 @@ pub read-public-key-spec : {M : Type 1} → statement M
 read-public-key-spec =
     tie.close
     (tie.spec
-    read-elements-requires
+    read-parts-requires
     public-key-requires
     unless-requires
     and-then-requires

@@ -9,9 +9,6 @@ use borrow.Author.Needs.{needs}
 use Rattle.recovery.proofs.find_triple.Statement.{statement}
 use Rattle.recovery.proofs.find_triple.Tie as tie
 
-front-answer-requires : tie.Need-front-answer-requires
-front-answer-requires c κs = search needs
-
 decapsulate-requires : tie.Need-decapsulate-requires
 decapsulate-requires c κs = search needs
 
@@ -32,12 +29,12 @@ returns c =
     let made = c .before .before .before .before .before in
     let read = made .before .before .before in
     let args = read .before .before .before .before .before .before .args in
-    let o = outcomeBy (args .key) (args .inverse) (args .dummy) (args .c) in
+    let o = outcomeBy (args .key) (args .inverse) (args .dummy) (args .c .c1) (args .c .c2) in
     let found = made .decapsulate .ensures in
     let last = c .before .before .before .unless .ensures ∙ ap (λ (d : Decapsulation). unless (d .found) DecapsulationFailure Done) found ∙ found-answer o in (
       c .and-then3 .ensures
           ∙ ap (andThen (args .key .answer))
-          (c .before .and-then2 .ensures ∙ ap₂ andThen (read .front-answer .ensures) (c .before .before .and-then .ensures ∙ ap (andThen (args .codes)) last)),
+          (c .before .and-then2 .ensures ∙ ap (andThen (args .c .answer)) (c .before .before .and-then .ensures ∙ ap (andThen (args .codes)) last)),
       ap (λ (d : Decapsulation). asTriple (d .triple)) found ∙ found-triple o,
     )
 
@@ -45,7 +42,6 @@ pub find-triple-spec : {M : Type 1} → statement M
 find-triple-spec =
     tie.close
     (tie.spec
-    front-answer-requires
     decapsulate-requires
     unless-requires
     and-then-requires

@@ -12,9 +12,6 @@ use borrow.Author.Needs.{needs}
 use Rattle.recovery.proofs.recover_entry.Statement.{statement}
 use Rattle.recovery.proofs.recover_entry.Tie as tie
 
-front-answer-requires : tie.Need-front-answer-requires
-front-answer-requires c κs = search needs
-
 decapsulate-requires : tie.Need-decapsulate-requires
 decapsulate-requires c κs = search needs
 
@@ -45,7 +42,7 @@ returns c =
     let args = read .before .before .before .before .before .before .before .args in
     let body = args .sealed .body in
     let tag = args .sealed .tag in
-    let o = outcomeBy (args .key) (args .inverse) (args .dummy) (args .sealed .front) in
+    let o = outcomeBy (args .key) (args .inverse) (args .dummy) (args .sealed .c1) (args .sealed .c2) in
     let found = made .decapsulate .ensures in
     let t = ap (λ (d : Decapsulation). asTriple (d .triple)) found ∙ found-triple o in
     let genuine = verified .verify .ensures .0 ∙ ap (λ (x : Triple). genuine? (x .r) (x .e1) (x .e2) body tag) t in
@@ -54,7 +51,7 @@ returns c =
       c .and-then3 .ensures
           ∙ ap (andThen (args .key .answer))
           (c .before .and-then2 .ensures
-          ∙ ap₂ andThen (read .front-answer .ensures) (c .before .before .and-then .ensures ∙ ap₂ andThen first second ∙ verified-answer o body tag)),
+          ∙ ap (andThen (args .sealed .answer)) (c .before .before .and-then .ensures ∙ ap₂ andThen first second ∙ verified-answer o body tag)),
       verified .verify .ensures .1 ∙ ap (λ (x : Triple). verifiedEntry (x .r) (x .e1) (x .e2) body tag) t,
     )
 
@@ -62,7 +59,6 @@ pub recover-entry-spec : {M : Type 1} → statement M
 recover-entry-spec =
     tie.close
     (tie.spec
-    front-answer-requires
     decapsulate-requires
     unless-requires
     verify-requires

@@ -1,5 +1,9 @@
-use mathlib.Core.Path.{refl, ap, _∙_}
+use mathlib.Core.Path.{ap, _∙_}
+use denote.Ref.{now}
 use Rattle.encoding.specs.Words.{firstUnreduced}
+use Rattle.answers.specs.declared.EncapsulationRecord.the-variants.{Encapsulation}
+use Rattle.records.specs.Records.{c1Word, c2Word, c1Of, c2Of}
+use Rattle.records.proofs.Checks.{words-checked}
 use borrow.Author.Needs.{needs}
 use Rattle.sealed_records.proofs.read_encapsulation.Statement.{statement}
 use Rattle.sealed_records.proofs.read_encapsulation.Tie as tie
@@ -34,14 +38,18 @@ first-unreduced-requires c κs = search needs
 first-unreduced-requires-2 : tie.Need-first-unreduced-requires-2
 first-unreduced-requires-2 c κs = search needs
 
+words-answer-requires : tie.Need-words-answer-requires
+words-answer-requires c κs = search needs
+
 returns : tie.Need-returns
 returns c =
-    let read = c .before .before in
+    let read = c .before .before .before in
+    let bytes = now (read .before .before .before .before .before .args .bytes) in
     let first = read .before .before .decode-element .ensures in
-    let second = read .decode-element2 .ensures in (
-      refl,
-      ((first, second), (c .before .first-unreduced .ensures ∙ ap firstUnreduced first, c .first-unreduced2 .ensures ∙ ap firstUnreduced second)),
-    )
+    let second = read .decode-element2 .ensures in
+    let i = c .before .before .first-unreduced .ensures ∙ ap firstUnreduced first in
+    let j = c .before .first-unreduced2 .ensures ∙ ap firstUnreduced second in
+    (words-checked (c1Word Encapsulation) (c2Word Encapsulation) (c1Of bytes) (c2Of bytes) (i, j) (c .words-answer .ensures), (first, second))
 
 pub read-encapsulation-spec : {M : Type 1} → statement M
 read-encapsulation-spec =
@@ -57,4 +65,5 @@ read-encapsulation-spec =
     decode-element-requires-2
     first-unreduced-requires
     first-unreduced-requires-2
+    words-answer-requires
     returns)

@@ -1,9 +1,17 @@
+use denote.Ref.{now}
+use Rattle.answers.specs.declared.EncapsulationRecord.the-variants.{SealedEntry}
+use Rattle.records.specs.Layout.{sealedEntryMark}
+use Rattle.records.specs.Records.{c1Word, c2Word}
+use Rattle.records.proofs.Checks.{front-checked}
 use borrow.Author.Needs.{needs}
 use Rattle.sealed_records.proofs.read_sealed_entry.Statement.{statement}
 use Rattle.sealed_records.proofs.read_sealed_entry.Tie as tie
 
 read-record-requires : tie.Need-read-record-requires
 read-record-requires c κs = search needs
+
+front-answer-requires : tie.Need-front-answer-requires
+front-answer-requires c κs = search needs
 
 sub-read-block : tie.Need-sub-read-block
 sub-read-block c = search needs
@@ -31,14 +39,20 @@ read-block-requires-2 c κs = search needs
 
 returns : tie.Need-returns
 returns c =
-    let (header, (elements, places)) = c .before .before .before .before .read-record .ensures in
-    (header, (elements, (places, (c .before .before .read-block .ensures, c .read-block2 .ensures))))
+    let judged = c .before .before .before .before .before .before in
+    let read = judged .before in
+    let bytes = now (read .before .before .args .bytes) in
+    let (header, (elements, places)) = read .read-record .ensures in (
+      front-checked sealedEntryMark 1 (c1Word SealedEntry) (c2Word SealedEntry) bytes header places (judged .front-answer .ensures),
+      (elements, (c .before .before .read-block .ensures, c .read-block2 .ensures)),
+    )
 
 pub read-sealed-entry-spec : {M : Type 1} → statement M
 read-sealed-entry-spec =
     tie.close
     (tie.spec
     read-record-requires
+    front-answer-requires
     sub-read-block
     part-read-block-start
     part-read-block-end
