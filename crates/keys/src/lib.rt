@@ -47,11 +47,7 @@ fn front_answer(read: Elements) -> Answer
     let at = read.unreduced;
     let a = KeyRecord::SecretKey(KeyPart::A(at.first));
     let b = KeyRecord::SecretKey(KeyPart::B(at.second));
-    records::front_answer(
-        read,
-        Refusal::KeyOutOfRange(a),
-        Refusal::KeyOutOfRange(b),
-    )
+    records::front_answer(read, Refusal::KeyOutOfRange(a), Refusal::KeyOutOfRange(b))
 }
 
 // What the checks of a secret key answer, and the spectra of a, b and s.

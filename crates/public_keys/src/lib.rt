@@ -48,11 +48,7 @@ fn front_answer(read: Elements) -> Answer
     let at = read.unreduced;
     let a = KeyRecord::PublicKey(KeyPart::A(at.first));
     let b = KeyRecord::PublicKey(KeyPart::B(at.second));
-    records::front_answer(
-        read,
-        Refusal::KeyOutOfRange(a),
-        Refusal::KeyOutOfRange(b),
-    )
+    records::front_answer(read, Refusal::KeyOutOfRange(a), Refusal::KeyOutOfRange(b))
 }
 
 // Of such a record.

@@ -52,11 +52,11 @@ returns c =
     let key = inverse .before .before in
     let (answer, ((a, b), s)) = key .read-secret-key .ensures in
     let args = key .before .before .before .before .before .before .before .before .before .before .args in
-    let (record, elements) = words .read-encapsulation .ensures in
+    let (checked, elements) = words .read-encapsulation .ensures in
     let o =
     outcome-by (key .read-secret-key .result) _ (dummy .read-triple .result) (words .read-encapsulation .result .c1) (words .read-encapsulation .result .c2) (read-sized (now (args .key))) a b s (inverse .reciprocals .ensures) (dummy .read-triple .ensures) (elements .0) (elements .1) in (
       c .find-triple .ensures .0
-          ∙ decapsulated-by answer record (codes .check-triple .ensures) o,
+          ∙ decapsulated-by answer checked (codes .check-triple .ensures) o,
       c .find-triple .ensures .1 ∙ ap answered o,
     )
 

@@ -9,8 +9,7 @@ use borrow.Author.Tests.{not-true, not-false}
 use Rattle.answers.specs.declared.Refusal.the-variants.{WrongLength}
 use Rattle.answers.specs.declared.Answer.{Answer}
 use Rattle.answers.specs.Answers.{number, unless, onDone}
-use Rattle.records.specs.Layout.{sealedEntryMark}
-use Rattle.records.specs.Records.{bodyPart, tagPart, recordAnswer}
+use Rattle.records.specs.Records.{bodyPart, tagPart, sealedEntryAnswer}
 use Rattle.keys.specs.Keys.{secretAnswer}
 use Rattle.calls.specs.Calls.{openedEntry, openAnswer, openOut}
 use Rattle.opening.specs.Parts.{openedOutcome, entryAnswer}
@@ -66,7 +65,7 @@ returns-2 c =
     let answer = checked ∙ whole in
     let written = c .before .before .write-entry .ensures
     ∙ ap₂ (λ (a : Answer) (x : List ℕ). onDone a x old) checked entry
-    ∙ entry-written (secretAnswer k) (recordAnswer sealedEntryMark 1 e) (openedOutcome k e noise) (bodyPart e) (tagPart e) old
+    ∙ entry-written (secretAnswer k) (sealedEntryAnswer e) (openedOutcome k e noise) (bodyPart e) (tagPart e) old
     ∙ ap (λ (a : Answer). onDone a (openedEntry (openedOutcome k e noise) (bodyPart e)) old) whole in
     (answer, (written, open-promise k e noise old (ap number answer) written))
 

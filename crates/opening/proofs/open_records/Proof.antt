@@ -47,11 +47,11 @@ returns c =
     let key = inverse .before .before in
     let (answer, ((a, b), s)) = key .read-secret-key .ensures in
     let args = key .before .before .before .before .before .before .before .before .before .before .args in
-    let (record, (elements, (body, tag))) = read .read-sealed-entry .ensures in
+    let (checked, (elements, (body, tag))) = read .read-sealed-entry .ensures in
     let o =
     outcome-by (key .read-secret-key .result) _ (dummy .noise-triple .result) (read .read-sealed-entry .result .c1) (read .read-sealed-entry .result .c2) (read-sized (now (args .key))) a b s (inverse .reciprocals .ensures) (dummy .noise-triple .ensures) (elements .0) (elements .1) in (
       c .recover-entry .ensures .0
-          ∙ opened-by answer record o body tag,
+          ∙ opened-by answer checked o body tag,
       c .recover-entry .ensures .1 ∙ verified-by o body tag,
     )
 
