@@ -6,12 +6,13 @@ use lib.Dec.{eqb}
 use lib.ListN.{length, getD, take}
 use Rattle.modq.specs.Modulus.{q}
 use Rattle.sampling.specs.Noise.{ternaryNoise}
+use Rattle.answers.specs.Answers.{number}
 use Rattle.desk_opening.specs.Input.{deskAnswer}
 use Rattle.desk_line.specs.Line.{deskLine}
 use Rattle.vectors.specs.declared.Verdict.{Verdict}
 use Rattle.vectors.specs.Fields.{word32, field, hasField}
 use Rattle.vectors.specs.Answers.{same?, verdictOf}
-use Rattle.case_outputs.specs.Outputs.{output, answerTold?}
+use Rattle.case_outputs.specs.Outputs.{output}
 use Rattle.key_cases.specs.KeyCases.{checkAgrees?, keygenAgrees?}
 use Rattle.call_cases.specs.declared.Call.{Call}
 use Rattle.call_cases.specs.CallCases.{sizeField, callAgrees?}
@@ -44,9 +45,9 @@ withoutFeed line = take (length line - 1) line
 abbrev pub lineAgrees? : List ℕ → Bool
 lineAgrees? text = same? (withoutFeed (deskLine (field 0 text))) (field 3 text)
 
--- number, location and line; the line has no location
+-- the number and the line; no location is told, as the desk prints none
 abbrev pub deskAgrees? : List ℕ → Bool
-deskAgrees? text = answerTold? (deskAnswer (field 0 text)) (word32 (field 1 text)) (field 2 text) && lineAgrees? text
+deskAgrees? text = eqb (number (deskAnswer (field 0 text))) (word32 (field 1 text)) && eqb (length (field 2 text)) 0 && lineAgrees? text
 
 abbrev pub agrees? : Kind → List ℕ → Bool
 agrees? CheckSecretKey text = checkAgrees? text

@@ -1,8 +1,11 @@
 use mathlib.Core.Path.{ap, ap₂, _∙_}
 use mathlib.Core.Bool.{_&&_}
+use mathlib.Core.List.{List}
+use Prim.Native.Nat.{ℕ}
+use lib.Dec.{eqb}
+use lib.ListN.{length}
+use Rattle.answers.specs.Answers.{number}
 use Rattle.desk_opening.specs.Input.{deskAnswer}
-use Rattle.case_outputs.specs.Outputs.{answerTold?}
-use Rattle.case_outputs.proofs.Outputs.{ap₃}
 use borrow.Author.Needs.{needs}
 use Rattle.reference_vectors.proofs.desk_agrees.Statement.{statement}
 use Rattle.reference_vectors.proofs.desk_agrees.Tie as tie
@@ -16,23 +19,27 @@ answer-requires c κs = search needs
 number-requires : tie.Need-number-requires
 number-requires c κs = search needs
 
+number-requires-2 : tie.Need-number-requires-2
+number-requires-2 c κs = search needs
+
 field-requires-2 : tie.Need-field-requires-2
 field-requires-2 c κs = search needs
-
-is-told-requires : tie.Need-is-told-requires
-is-told-requires c κs = search needs
 
 line-agrees-requires : tie.Need-line-agrees-requires
 line-agrees-requires c κs = search needs
 
 returns : tie.Need-returns
 returns c =
-    let judged = c .before in
-    let words = judged .before in
-    let told = words .before in
-    let opened = told .before in
+    let unlocated = c .before in
+    let told = unlocated .before in
+    let numbered = told .before in
+    let opened = numbered .before in
     let answer-is = opened .answer .ensures ∙ ap deskAnswer (opened .before .field .ensures) in
-    ap₂ _&&_ (judged .is-told .ensures ∙ ap₃ answerTold? answer-is (told .number .ensures) (words .field2 .ensures)) (c .line-agrees .ensures)
+    ap₂ _&&_
+    (ap₂ _&&_
+    (ap₂ eqb (numbered .number .ensures ∙ ap number answer-is) (told .number2 .ensures))
+    (ap (λ (l : List ℕ). eqb (length l) 0) (unlocated .field2 .ensures)))
+    (c .line-agrees .ensures)
 
 pub desk-agrees-spec : {M : Type 1} → statement M
 desk-agrees-spec =
@@ -41,7 +48,7 @@ desk-agrees-spec =
     field-requires
     answer-requires
     number-requires
+    number-requires-2
     field-requires-2
-    is-told-requires
     line-agrees-requires
     returns)
