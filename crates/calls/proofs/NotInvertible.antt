@@ -25,7 +25,7 @@ use Rattle.answers.proofs.AnswerLaws.{Never, then-refuses}
 use Rattle.triples.proofs.TripleLaws.{triple-never}
 use Rattle.calls.proofs.Behind.{encapsulation-rest-never, entry-rest-never}
 use Rattle.calls.proofs.Lengths.{one-fits, keygen-fits, seeded-keygen-fits, encapsulate-fits, decapsulate-fits, seal-fits, open-fits, says-after-lengths, of-encapsulate, of-seal}
-use Rattle.public_keys.proofs.PublicLaws.{public-refused}
+use Rattle.public_keys.proofs.PublicLaws.{public-refused, long-refused, seeded-refused}
 use Rattle.keys.proofs.KeyLaws.{generated-refused, secret-refused}
 
 -- ---- what stands before and behind the check of a key
@@ -55,7 +55,8 @@ generating = (λ ((h1, h2, h3, h4, h5), (full, none)). (h1, h2, h3, h4, h5, full
 pub not-invertible-exact : NotInvertibleExact
 unfolding keygenAnswer seededKeygenAnswer checkAnswer encapsulateAnswer decapsulateAnswer sealAnswer openAnswer
 not-invertible-exact = record {
-  public-key = λ k size. (λ says. public-refused k .0 (size, says), λ h. public-refused k .1 h .1);
+  public-key = long-refused;
+  seeded-key = seeded-refused;
   secret-key = secret-refused;
   keygen = λ stream s e public secret.
       Iff·trans (six-after-lengths _ (keygen-fits stream s e public secret) (generated-refused stream s e)) generating;

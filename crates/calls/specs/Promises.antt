@@ -15,8 +15,8 @@ use Rattle.sampling.specs.Stream.{streamLength, taken}
 use Rattle.triples.specs.Triple.{tripleBytes}
 use Rattle.derivation.specs.Derivation.{tagOf, entryOf}
 use Rattle.answers.specs.Answers.{number}
-use Rattle.records.specs.Layout.{secretKeyMark, publicKeyLength, seedLength, seededKeyLength, secretKeyLength, sealedEntryLength, encapsulationLength, tripleLength, blockLength}
-use Rattle.records.specs.Records.{firstOf, secondOf, codesPart, bodyPart, tagPart, c1Of, c2Of}
+use Rattle.records.specs.Layout.{publicKeyMark, secretKeyMark, publicKeyLength, seedLength, seededKeyLength, secretKeyLength, sealedEntryLength, encapsulationLength, tripleLength, blockLength}
+use Rattle.records.specs.Records.{firstOf, secondOf, codesPart, bodyPart, tagPart, seededB, c1Of, c2Of}
 use Rattle.records.specs.WellFormed.{WellFormedFront, WellFormedSeededKey, WellFormedKey, WellFormedEntry, WellFormedEncapsulation}
 use Rattle.triples.specs.WellFormed.{WellFormedTriple}
 use Rattle.seeds.specs.Seeds.{seedStream}
@@ -94,8 +94,11 @@ OpenExact k sealed noise before said after =
 
 -- 6 is said exactly when every length fits, the checks before it pass, and b has no inverse
 pub record NotInvertibleExact : Type 0 where
-  -- of a public key with one of the two lengths
-  pub public-key : (k : List ℕ) → publicLength? (length k) ≡ true → (number (publicAnswer k) ≡ 6) ↔ (PublicRecord k × ¬ (Invertible (publicB k)))
+  -- of a public key, by its length: a seeded one has a length of its own
+  pub public-key : (k : List ℕ) → ¬ (length k ≡ seededKeyLength)
+      → (number (publicAnswer k) ≡ 6) ↔ (WellFormedFront publicKeyMark 1 k × ¬ (Invertible (secondOf k)))
+  pub seeded-key : (k : List ℕ) → length k ≡ seededKeyLength
+      → (number (publicAnswer k) ≡ 6) ↔ (WellFormedSeededKey k × SeedFills k × ¬ (Invertible (seededB k)))
   -- of a secret key, whatever its length
   pub secret-key : (k : List ℕ)
       → (number (secretAnswer k) ≡ 6) ↔ (WellFormedFront secretKeyMark 1 k × (firstInvalidCode (codesPart k) ≡ n) × ¬ (Invertible (secondOf k)))

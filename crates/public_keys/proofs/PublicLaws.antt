@@ -18,9 +18,9 @@ use Rattle.answers.specs.declared.Answer.the-variants.{Done}
 use Rattle.answers.specs.declared.Location.{Location}
 use Rattle.answers.specs.Answers.{number, unless, andThen}
 use Rattle.answers.specs.Locations.{Names}
-use Rattle.records.specs.Layout.{publicKeyLength, seededKeyLength}
-use Rattle.records.specs.Records.{seedOf}
-use Rattle.records.specs.WellFormed.{WellFormedSeededKey}
+use Rattle.records.specs.Layout.{publicKeyMark, publicKeyLength, seededKeyLength}
+use Rattle.records.specs.Records.{secondOf, seedOf, seededB}
+use Rattle.records.specs.WellFormed.{WellFormedFront, WellFormedSeededKey}
 use Rattle.public_keys.specs.PublicKeys.{streamAnswer, inverseAnswer, publicLength?, seeded?, publicB, publicRecordAnswer, publicStreamAnswer, publicAnswer}
 use Rattle.public_keys.specs.WellFormed.{SeedFills, PublicHeader, PublicRecord, PublicNamed}
 use Rattle.answers.proofs.AnswerLaws.{Never, done-never, unless-done, unless-never, unless-refuses, then-done, then-never, then-says, then-refuses, names-first}
@@ -153,12 +153,41 @@ module _ (k : List ℕ) where
   public-done =
       Iff·trans (Iff·and Iff·rfl (Iff·trans (then-done _ _) (Iff·and Iff·rfl (then-done _ _)))) (behind-record (inverse-done (publicB k)))
 
-  pub public-refused : ((publicLength? (length k) ≡ true) × (number (publicAnswer k) ≡ 6)) ↔ (PublicRecord k × ¬ (Invertible (publicB k)))
+  -- 6 is said last
+  six-last : (number (publicAnswer k) ≡ 6) ↔ ((publicRecordAnswer k ≡ Done) × ((publicStreamAnswer k ≡ Done) × (number (inverseAnswer (publicB k)) ≡ 6)))
   unfolding publicAnswer
-  public-refused =
-      Iff·trans
-      (Iff·and Iff·rfl (Iff·trans (then-says _ (record-never-either 6 (omega arith))) (Iff·and Iff·rfl (then-says _ (stream-never-either (omega arith) (λ e. omega arith))))))
-      (behind-record (inverse-refused (publicB k)))
+  six-last =
+      Iff·trans (then-says _ (record-never-either 6 (omega arith))) (Iff·and Iff·rfl (then-says _ (stream-never-either (omega arith) (λ e. omega arith))))
+
+  pub public-refused : ((publicLength? (length k) ≡ true) × (number (publicAnswer k) ≡ 6)) ↔ (PublicRecord k × ¬ (Invertible (publicB k)))
+  public-refused = Iff·trans (Iff·and Iff·rfl six-last) (behind-record (inverse-refused (publicB k)))
+
+  -- .. at every length
+  pub long-refused : ¬ (length k ≡ seededKeyLength) → (number (publicAnswer k) ≡ 6) ↔ (WellFormedFront publicKeyMark 1 k × ¬ (Invertible (secondOf k)))
+  long-refused other =
+      let kind = ne-eqb (length k) seededKeyLength other in
+      Iff·trans six-last (
+        λ (checked, (stream, says)).
+            (public-front-done k .0 (sym (long-record k kind) ∙ checked), rw (long-b k kind) at (inverse-refused (publicB k) .0 says)),
+        λ (w, none).
+            (long-record k kind ∙ public-front-done k .1 w, (long-stream k kind, inverse-refused (publicB k) .1 (rw (long-b k kind) none))),
+      )
+
+  pub seeded-refused : length k ≡ seededKeyLength → (number (publicAnswer k) ≡ 6) ↔ (WellFormedSeededKey k × SeedFills k × ¬ (Invertible (seededB k)))
+  seeded-refused size =
+      let kind = is-seeded size in
+      Iff·trans six-last (
+        λ (checked, (stream, says)).
+            let (mark, version, words) = seeded-done k .0 (sym (seeded-record k kind) ∙ checked) in (
+              record { size = size; has-mark = mark; has-version = version; words = words },
+              stream-done (seedStream (seedOf k)) .0 (sym (seeded-stream k kind) ∙ stream),
+              rw (seeded-b k kind) at (inverse-refused (publicB k) .0 says),
+            ),
+        λ (w, fills, none). (
+          seeded-record k kind ∙ seeded-done k .1 (w .has-mark, w .has-version, w .words),
+          (seeded-stream k kind ∙ stream-done (seedStream (seedOf k)) .1 fills, inverse-refused (publicB k) .1 (rw (seeded-b k kind) none)),
+        ),
+      )
 
   pub public-exhausted : ((publicLength? (length k) ≡ true) × (number (publicAnswer k) ≡ 8)) ↔ (WellFormedSeededKey k × ¬ (SeedFills k))
   unfolding publicAnswer

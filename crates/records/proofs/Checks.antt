@@ -13,7 +13,8 @@ use Rattle.answers.specs.declared.Answer.{Answer}
 use Rattle.answers.specs.declared.Answer.the-variants.{Done, Refused}
 use Rattle.answers.specs.Answers.{unless, andThen}
 use Rattle.records.specs.Layout.{seededKeyMark}
-use Rattle.records.specs.Records.{firstOf, secondOf, headerAnswer, bWord, wordsAnswer, elementsAnswer, unreducedAnswer, recordAnswer, seededB, seededRecordAnswer}
+use Rattle.records.specs.Records.{firstOf, secondOf, headerAnswer, bWord, wordsAnswer, elementsAnswer, recordAnswer, seededB, seededRecordAnswer}
+use Rattle.records.specs.Read.{placeAnswer}
 
 module _ (mark : List ℕ) (version : ℕ) (bytes : List ℕ) where
   abbrev judged : Bool → Bool → Answer
@@ -32,21 +33,20 @@ module _ (mark : List ℕ) (version : ℕ) (bytes : List ℕ) where
   header-done m v = sym (ap₂ judged m v)
 
 -- the words of two elements, from their places
-pub words-checked : (one other : ℕ → Refusal) (first second : List ℕ) {a : Answer} {i j : ℕ}
-    → (i ≡ firstUnreduced first) × (j ≡ firstUnreduced second) → a ≡ elementsAnswer i j (one i) (other j) → a ≡ unreducedAnswer one other first second
-unfolding unreducedAnswer
-words-checked one other first second (ei, ej) f = f ∙ ap₂ (λ (i j : ℕ). elementsAnswer i j (one i) (other j)) ei ej
+pub words-checked : (one other : ℕ → Refusal) (first second : List ℕ) {a : Answer} {i j : ℕ} → (i ≡ firstUnreduced first) × (j ≡ firstUnreduced second)
+    → a ≡ andThen (placeAnswer i (one i)) (placeAnswer j (other j)) → a ≡ elementsAnswer one other first second
+unfolding wordsAnswer elementsAnswer
+words-checked one other first second (ei, ej) f = f ∙ ap₂ (λ (i j : ℕ). andThen (placeAnswer i (one i)) (placeAnswer j (other j))) ei ej
 
 -- the front of a record, from what was read of it
 pub front-checked : (mark : List ℕ) (version : ℕ) (one other : ℕ → Refusal) (bytes : List ℕ) {h a : Answer} {i j : ℕ} → h ≡ headerAnswer mark version bytes
-    → (i ≡ firstUnreduced (firstOf bytes)) × (j ≡ firstUnreduced (secondOf bytes)) → a ≡ andThen h (elementsAnswer i j (one i) (other j))
-    → a ≡ recordAnswer mark version one other bytes
+    → (i ≡ firstUnreduced (firstOf bytes)) × (j ≡ firstUnreduced (secondOf bytes))
+    → a ≡ andThen h (andThen (placeAnswer i (one i)) (placeAnswer j (other j))) → a ≡ recordAnswer mark version one other bytes
 unfolding recordAnswer
-front-checked mark version one other bytes e places f =
-    f ∙ ap₂ andThen e (words-checked one other (firstOf bytes) (secondOf bytes) places refl)
+front-checked mark version one other bytes e places f = f ∙ ap₂ andThen e (words-checked one other (firstOf bytes) (secondOf bytes) places refl)
 
 -- a seeded key's record
 pub seeded-checked : (bytes : List ℕ) {h a : Answer} {i : ℕ} → h ≡ headerAnswer seededKeyMark 1 bytes → i ≡ firstUnreduced (seededB bytes)
-    → a ≡ andThen h (wordsAnswer i (bWord SeededPublicKey i)) → a ≡ seededRecordAnswer bytes
-unfolding seededRecordAnswer
-seeded-checked bytes e ei f = f ∙ ap₂ andThen e (ap (λ (i : ℕ). wordsAnswer i (bWord SeededPublicKey i)) ei)
+    → a ≡ andThen h (placeAnswer i (bWord SeededPublicKey i)) → a ≡ seededRecordAnswer bytes
+unfolding wordsAnswer seededRecordAnswer
+seeded-checked bytes e ei f = f ∙ ap₂ andThen e (ap (λ (i : ℕ). placeAnswer i (bWord SeededPublicKey i)) ei)

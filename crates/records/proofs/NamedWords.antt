@@ -28,15 +28,15 @@ use Rattle.answers.specs.Locations.{at, publicKey, seededPublicKey, secretKey, 
 use Rattle.answers.specs.Locations.{inKeyPart, inKey, inEncapsulationPart, inEncapsulation, refusalLocation, Names}
 use Rattle.answers.proofs.AnswerLaws.{then-names, names-either}
 use Rattle.records.specs.Layout.{publicKeyMark, seededKeyMark, secretKeyMark, sealedEntryMark}
-use Rattle.records.specs.Records.{aWord, bWord, c1Word, c2Word, wordsAnswer, elementsAnswer, unreducedAnswer, firstOf, secondOf, recordAnswer}
+use Rattle.records.specs.Records.{aWord, bWord, c1Word, c2Word, wordsAnswer, elementsAnswer, firstOf, secondOf, recordAnswer}
 use Rattle.records.specs.Records.{publicFrontAnswer, secretFrontAnswer, sealedEntryAnswer, seededB, seededRecordAnswer, c1Of, c2Of, encapsulationAnswer}
 use Rattle.records.specs.Named.{FirstUnreduced, Named, NamedInTwo}
 use Rattle.records.proofs.RecordLaws.{header-done, header-never, words-done}
 
 -- the refusal of word i has number k and names word i of part p of a record of kind r
-pub record WordOf (k r p : ℕ) (refusal : ℕ → Refusal) : Type 0 where
-  pub numbered : (i : ℕ) → refusalNumber (refusal i) ≡ k
-  pub located : (i : ℕ) → refusalLocation (refusal i) ≡ at r p i
+pub record WordOf (k r p : ℕ) (word : ℕ → Refusal) : Type 0 where
+  pub numbered : (i : ℕ) → refusalNumber (word i) ≡ k
+  pub located : (i : ℕ) → refusalLocation (word i) ≡ at r p i
 
 pub a-word : (key : KeyPart → KeyRecord) {r : ℕ} → ((p : KeyPart) → inKey (key p) ≡ inKeyPart r p) → WordOf 4 r aPart (aWord key)
 a-word key kind = record { numbered = λ i. refl; located = λ i. kind (A i) }
@@ -62,20 +62,20 @@ found-first words size some =
       here = from-found q words (omega arith);
     }
 
-module _ {k r p : ℕ} {refusal : ℕ → Refusal} (some : 0 < k) (of : WordOf k r p refusal) where
+module _ {k r p : ℕ} {word : ℕ → Refusal} (some : 0 < k) (of : WordOf k r p word) where
   pub words-named : (words : List ℕ) (l : Location) → length words ≡ n
-      → Names k l (wordsAnswer (firstUnreduced words) (refusal (firstUnreduced words))) ↔ Named r p words l
+      → Names k l (wordsAnswer word words) ↔ Named r p words l
   unfolding wordsAnswer
   words-named words l size = (λ e. to (eqb place n) refl e, λ (i, e, first). from i e first)
     where
       place : ℕ
       place = firstUnreduced words
 
-      to : (t : Bool) → eqb place n ≡ t → Names k l (unless t (refusal place) Done) → Named r p words l
+      to : (t : Bool) → eqb place n ≡ t → Names k l (unless t (word place) Done) → Named r p words l
       to true passed (e, f) = absurd (omega arith)
       to false failed (e, f) = (place, sym f ∙ of .located place, found-first words size (eqb-false place n failed))
 
-      from : (i : ℕ) → l ≡ at r p i → FirstUnreduced words i → Names k l (unless (eqb place n) (refusal place) Done)
+      from : (i : ℕ) → l ≡ at r p i → FirstUnreduced words i → Names k l (unless (eqb place n) (word place) Done)
       from i e first =
           let here : place ≡ i = from-unique q words i (omega (arith, first .within)) (first .before) (first .here) in
           let failed : eqb place n ≡ false = ne-eqb place n (λ f. omega (arith, first .within)) in
@@ -83,13 +83,13 @@ module _ {k r p : ℕ} {refusal : ℕ → Refusal} (some : 0 < k) (of : WordOf k
 
 -- ---- two elements
 
-pub unreduced-named : {k r p p′ : ℕ} {one other : ℕ → Refusal} → 0 < k → WordOf k r p one → WordOf k r p′ other
+pub elements-named : {k r p p′ : ℕ} {one other : ℕ → Refusal} → 0 < k → WordOf k r p one → WordOf k r p′ other
     → (first second : List ℕ) (l : Location) → length first ≡ n → length second ≡ n
-    → Names k l (unreducedAnswer one other first second) ↔ NamedInTwo r p p′ first second l
-unfolding elementsAnswer unreducedAnswer
-unreduced-named {one = one} some of-one of-other first second l h1 h2 =
+    → Names k l (elementsAnswer one other first second) ↔ NamedInTwo r p p′ first second l
+unfolding elementsAnswer
+elements-named {one = one} some of-one of-other first second l h1 h2 =
     Iff·trans (names-either _ _ some)
-    (sum-iff (words-named some of-one first l h1) (Iff·and (words-done first (one (firstUnreduced first)) h1) (words-named some of-other second l h2)))
+    (sum-iff (words-named some of-one first l h1) (Iff·and (words-done one first h1) (words-named some of-other second l h2)))
   where
     sum-iff : {A B C D : Type 0} → A ↔ C → B ↔ D → (A ⊎ B) ↔ (C ⊎ D)
     sum-iff f g = (⊎-map (f .0) (g .0), ⊎-map (f .1) (g .1))
@@ -106,7 +106,7 @@ record-named h of-one of-other mark version bytes l =
     Iff·trans
     (Iff·trans (then-names _ (header-never h mark version bytes))
     (Iff·and (header-done mark version bytes)
-    (unreduced-named (omega arith) of-one of-other (firstOf bytes) (secondOf bytes) l (length-elementOf _) (length-elementOf _))))
+    (elements-named (omega arith) of-one of-other (firstOf bytes) (secondOf bytes) l (length-elementOf _) (length-elementOf _))))
     (λ ((m, v), named). (m, v, named), λ (m, v, named). ((m, v), named))
 
 pub seeded-named : (bytes : List ℕ) (l : Location)
@@ -137,5 +137,5 @@ sealed-entry-named bytes l = record-named (omega arith) (c1-word SealedEntry (λ
 pub encapsulation-named : (bytes : List ℕ) (l : Location)
     → Names 11 l (encapsulationAnswer bytes) ↔ NamedInTwo encapsulation c1Part c2Part (c1Of bytes) (c2Of bytes) l
 encapsulation-named bytes l =
-    unreduced-named (omega arith) (c1-word Encapsulation (λ p. refl)) (c2-word Encapsulation (λ p. refl)) (c1Of bytes) (c2Of bytes) l
+    elements-named (omega arith) (c1-word Encapsulation (λ p. refl)) (c2-word Encapsulation (λ p. refl)) (c1Of bytes) (c2Of bytes) l
     (length-elementOf _) (length-elementOf _)

@@ -22,7 +22,7 @@ use Rattle.answers.specs.declared.Refusal.the-variants.{WrongMark, WrongVersion
 use Rattle.answers.specs.declared.Answer.the-variants.{Done}
 use Rattle.answers.specs.Answers.{refusalNumber, unless}
 use Rattle.records.specs.Layout.{publicKeyMark, seededKeyMark, secretKeyMark, sealedEntryMark}
-use Rattle.records.specs.Records.{headerAnswer, aWord, bWord, c1Word, c2Word, wordsAnswer, codesAnswer, elementsAnswer, unreducedAnswer, firstOf, secondOf, recordAnswer}
+use Rattle.records.specs.Records.{headerAnswer, aWord, bWord, c1Word, c2Word, wordsAnswer, codesAnswer, elementsAnswer, firstOf, secondOf, recordAnswer}
 use Rattle.records.specs.Records.{publicFrontAnswer, secretFrontAnswer, sealedEntryAnswer, seededB, seededRecordAnswer, c1Of, c2Of, encapsulationAnswer}
 use Rattle.records.specs.WellFormed.{WellFormedFront}
 use Rattle.answers.proofs.AnswerLaws.{unless-done, then-done, Never, done-never, unless-never, then-never}
@@ -38,19 +38,18 @@ unfolding headerAnswer
 header-done mark version bytes =
     Iff·trans (unless-done (hasMark mark bytes) WrongMark _) (Iff·and Iff·rfl (equal-done (versionOf bytes) version WrongVersion))
 
-pub words-done : (a : List ℕ) (r : Refusal) → length a ≡ n → (wordsAnswer (firstUnreduced a) r ≡ Done) ↔ Element a
+pub words-done : (word : ℕ → Refusal) (a : List ℕ) → length a ≡ n → (wordsAnswer word a ≡ Done) ↔ Element a
 unfolding wordsAnswer
-words-done a r size = Iff·trans (equal-done (firstUnreduced a) n r) (unreduced-iff a size)
+words-done word a size = Iff·trans (equal-done (firstUnreduced a) n (word (firstUnreduced a))) (unreduced-iff a size)
 
 pub codes-done : (bytes : List ℕ) → (codesAnswer bytes ≡ Done) ↔ (firstInvalidCode bytes ≡ 1024)
 unfolding codesAnswer
 codes-done bytes = equal-done (firstInvalidCode bytes) 1024 InvalidCode
 
-pub unreduced-done : (one other : ℕ → Refusal) (first second : List ℕ) → length first ≡ n → length second ≡ n
-    → (unreducedAnswer one other first second ≡ Done) ↔ (Element first × Element second)
-unfolding elementsAnswer unreducedAnswer
-unreduced-done one other first second h1 h2 =
-    Iff·trans (then-done _ _) (Iff·and (words-done first (one (firstUnreduced first)) h1) (words-done second (other (firstUnreduced second)) h2))
+elements-done : (one other : ℕ → Refusal) (first second : List ℕ) → length first ≡ n → length second ≡ n
+    → (elementsAnswer one other first second ≡ Done) ↔ (Element first × Element second)
+unfolding elementsAnswer
+elements-done one other first second h1 h2 = Iff·trans (then-done _ _) (Iff·and (words-done one first h1) (words-done other second h2))
 
 record-done : (mark : List ℕ) (version : ℕ) (one other : ℕ → Refusal) (bytes : List ℕ)
     → (recordAnswer mark version one other bytes ≡ Done) ↔ WellFormedFront mark version bytes
@@ -58,7 +57,7 @@ unfolding recordAnswer
 record-done mark version one other bytes =
     Iff·trans
     (Iff·trans (then-done _ _)
-    (Iff·and (header-done mark version bytes) (unreduced-done one other (firstOf bytes) (secondOf bytes) (length-elementOf _) (length-elementOf _)))) (
+    (Iff·and (header-done mark version bytes) (elements-done one other (firstOf bytes) (secondOf bytes) (length-elementOf _) (length-elementOf _)))) (
       λ ((m, v), (first, second)). record { has-mark = m; has-version = v; first-words = first; second-words = second },
       λ w. ((w .has-mark, w .has-version), (w .first-words, w .second-words)),
     )
@@ -77,13 +76,12 @@ pub seeded-done : (bytes : List ℕ)
 unfolding seededRecordAnswer
 seeded-done bytes =
     Iff·trans
-    (Iff·trans (then-done _ _) (Iff·and (header-done seededKeyMark 1 bytes)
-    (words-done (seededB bytes) (bWord SeededPublicKey (firstUnreduced (seededB bytes))) (length-elementOf _))))
+    (Iff·trans (then-done _ _) (Iff·and (header-done seededKeyMark 1 bytes) (words-done (bWord SeededPublicKey) (seededB bytes) (length-elementOf _))))
     (λ ((m, v), words). (m, v, words), λ (m, v, words). ((m, v), words))
 
 pub encapsulation-done : (bytes : List ℕ) → (encapsulationAnswer bytes ≡ Done) ↔ (Element (c1Of bytes) × Element (c2Of bytes))
 encapsulation-done bytes =
-    unreduced-done (c1Word Encapsulation) (c2Word Encapsulation) (c1Of bytes) (c2Of bytes) (length-elementOf _) (length-elementOf _)
+    elements-done (c1Word Encapsulation) (c2Word Encapsulation) (c1Of bytes) (c2Of bytes) (length-elementOf _) (length-elementOf _)
 
 -- ---- which numbers these checks never say
 
@@ -102,24 +100,24 @@ unfolding codesAnswer
 codes-never some other bytes = test-never some (eqb (firstInvalidCode bytes) 1024) InvalidCode other
 
 -- a word's refusal has another number
-pub words-never : {k : ℕ} → 0 < k → (place : ℕ) (r : Refusal) → ¬ (refusalNumber r ≡ k) → Never k (wordsAnswer place r)
+words-never : {k : ℕ} → 0 < k → (word : ℕ → Refusal) (a : List ℕ) → ((i : ℕ) → ¬ (refusalNumber (word i) ≡ k)) → Never k (wordsAnswer word a)
 unfolding wordsAnswer
-words-never some place r other = test-never some (eqb place n) r other
+words-never some word a other = test-never some (eqb (firstUnreduced a) n) (word (firstUnreduced a)) (other (firstUnreduced a))
 
-pub unreduced-never : {k : ℕ} → 0 < k → (one other : ℕ → Refusal) (first second : List ℕ)
-    → ((i : ℕ) → ¬ (refusalNumber (one i) ≡ k)) → ((i : ℕ) → ¬ (refusalNumber (other i) ≡ k)) → Never k (unreducedAnswer one other first second)
-unfolding elementsAnswer unreducedAnswer
-unreduced-never some one other first second not-one not-other = then-never (words-never some _ _ (not-one _)) (words-never some _ _ (not-other _))
+elements-never : {k : ℕ} → 0 < k → (one other : ℕ → Refusal) (first second : List ℕ)
+    → ((i : ℕ) → ¬ (refusalNumber (one i) ≡ k)) → ((i : ℕ) → ¬ (refusalNumber (other i) ≡ k)) → Never k (elementsAnswer one other first second)
+unfolding elementsAnswer
+elements-never some one other first second not-one not-other = then-never (words-never some one first not-one) (words-never some other second not-other)
 
-pub record-never : {k : ℕ} → 3 < k → (mark : List ℕ) (version : ℕ) (one other : ℕ → Refusal) (bytes : List ℕ)
+record-never : {k : ℕ} → 3 < k → (mark : List ℕ) (version : ℕ) (one other : ℕ → Refusal) (bytes : List ℕ)
     → ((i : ℕ) → ¬ (refusalNumber (one i) ≡ k)) → ((i : ℕ) → ¬ (refusalNumber (other i) ≡ k)) → Never k (recordAnswer mark version one other bytes)
 unfolding recordAnswer
 record-never h mark version one other bytes not-one not-other =
-    then-never (header-never h mark version bytes) (unreduced-never (omega arith) one other (firstOf bytes) (secondOf bytes) not-one not-other)
+    then-never (header-never h mark version bytes) (elements-never (omega arith) one other (firstOf bytes) (secondOf bytes) not-one not-other)
 
 pub seeded-never : {k : ℕ} → 4 < k → (bytes : List ℕ) → Never k (seededRecordAnswer bytes)
 unfolding seededRecordAnswer
-seeded-never h bytes = then-never (header-never (omega arith) seededKeyMark 1 bytes) (words-never (omega arith) _ _ (λ e. omega arith))
+seeded-never h bytes = then-never (header-never (omega arith) seededKeyMark 1 bytes) (words-never (omega arith) (bWord SeededPublicKey) (seededB bytes) (λ i e. omega arith))
 
 -- a key's words are refused under 4
 key-record-never : {k : ℕ} → 4 < k → (mark : List ℕ) (version : ℕ) (key : KeyPart → KeyRecord) (bytes : List ℕ)
@@ -139,4 +137,4 @@ sealed-entry-never h other bytes = record-never h sealedEntryMark 1 (c1Word Seal
 
 pub encapsulation-never : {k : ℕ} → 0 < k → ¬ (11 ≡ k) → (bytes : List ℕ) → Never k (encapsulationAnswer bytes)
 encapsulation-never some other bytes =
-    unreduced-never some (c1Word Encapsulation) (c2Word Encapsulation) (c1Of bytes) (c2Of bytes) (λ i e. other e) (λ i e. other e)
+    elements-never some (c1Word Encapsulation) (c2Word Encapsulation) (c1Of bytes) (c2Of bytes) (λ i e. other e) (λ i e. other e)

@@ -47,18 +47,13 @@ c1Word capsule i = EncapsulationOutOfRange (capsule (C1 i))
 abbrev pub c2Word : (EncapsulationPart → EncapsulationRecord) → ℕ → Refusal
 c2Word capsule i = EncapsulationOutOfRange (capsule (C2 i))
 
--- from the place of an element's first word that is q or more; `refusal` names that word
-unfoldable pub wordsAnswer : (place : ℕ) (refusal : Refusal) → Answer
-wordsAnswer place refusal = unless (eqb place n) refusal Done
+-- an element's first word that is q or more; `word` names word i
+unfoldable pub wordsAnswer : (word : ℕ → Refusal) (words : List ℕ) → Answer
+wordsAnswer word words = unless (eqb (firstUnreduced words) n) (word (firstUnreduced words)) Done
 
--- .. of two elements
-unfoldable pub elementsAnswer : (first second : ℕ) (one other : Refusal) → Answer
-elementsAnswer first second one other = andThen (wordsAnswer first one) (wordsAnswer second other)
-
--- the first word of each element that is q or more, by the refusals that name word i of them
-unfoldable pub unreducedAnswer : (one other : ℕ → Refusal) (first second : List ℕ) → Answer
-unreducedAnswer one other first second =
-    elementsAnswer (firstUnreduced first) (firstUnreduced second) (one (firstUnreduced first)) (other (firstUnreduced second))
+-- .. of two elements, the first before the second
+unfoldable pub elementsAnswer : (one other : ℕ → Refusal) (first second : List ℕ) → Answer
+elementsAnswer one other first second = andThen (wordsAnswer one first) (wordsAnswer other second)
 
 -- 5, from the place of the first code 3
 unfoldable pub codesAnswer : List ℕ → Answer
@@ -76,7 +71,7 @@ secondOf bytes = elementOf (part secondPlace elementLength bytes)
 
 -- 2, 3, then 4 or 11
 unfoldable pub recordAnswer : (mark : List ℕ) (version : ℕ) (one other : ℕ → Refusal) (bytes : List ℕ) → Answer
-recordAnswer mark version one other bytes = andThen (headerAnswer mark version bytes) (unreducedAnswer one other (firstOf bytes) (secondOf bytes))
+recordAnswer mark version one other bytes = andThen (headerAnswer mark version bytes) (elementsAnswer one other (firstOf bytes) (secondOf bytes))
 
 abbrev pub publicFrontAnswer : List ℕ → Answer
 publicFrontAnswer bytes = recordAnswer publicKeyMark 1 (aWord PublicKey) (bWord PublicKey) bytes
@@ -124,8 +119,7 @@ seededB bytes = elementOf (part seededBPlace elementLength bytes)
 
 -- 2, 3, then 4
 unfoldable pub seededRecordAnswer : List ℕ → Answer
-seededRecordAnswer bytes =
-    andThen (headerAnswer seededKeyMark 1 bytes) (wordsAnswer (firstUnreduced (seededB bytes)) (bWord SeededPublicKey (firstUnreduced (seededB bytes))))
+seededRecordAnswer bytes = andThen (headerAnswer seededKeyMark 1 bytes) (wordsAnswer (bWord SeededPublicKey) (seededB bytes))
 
 unfoldable pub seededKeyBytes : (seed b : List ℕ) → List ℕ
 seededKeyBytes seed b = header seededKeyMark 1 ++ seed ++ elementBytes b
@@ -140,7 +134,7 @@ c2Of bytes = elementOf (part elementLength elementLength bytes)
 
 -- 11
 abbrev pub encapsulationAnswer : List ℕ → Answer
-encapsulationAnswer bytes = unreducedAnswer (c1Word Encapsulation) (c2Word Encapsulation) (c1Of bytes) (c2Of bytes)
+encapsulationAnswer bytes = elementsAnswer (c1Word Encapsulation) (c2Word Encapsulation) (c1Of bytes) (c2Of bytes)
 
 unfoldable pub encapsulationBytes : (c1 c2 : List ℕ) → List ℕ
 encapsulationBytes c1 c2 = elementBytes c1 ++ elementBytes c2

@@ -16,8 +16,8 @@ ghost use Prim.Native.Nat.{_≤_};
 ghost use lib.ListN.{length, drop};
 ghost use Rattle.encoding.specs.Words.{firstUnreduced};
 ghost use Rattle.records.specs.Layout.{publicKeyLength, secretKeyLength, thirdPlace};
-ghost use Rattle.records.specs.Records.{headerAnswer, wordsAnswer, codesAnswer, firstOf, secondOf, recordBytes, publicKeyBytes, secretKeyBytes};
-ghost use Rattle.records.specs.Read.{wordsOf, frontOf};
+ghost use Rattle.records.specs.Records.{headerAnswer, codesAnswer, firstOf, secondOf, recordBytes, publicKeyBytes, secretKeyBytes};
+ghost use Rattle.records.specs.Read.{placeAnswer, placesAnswer, frontOf};
 
 // ---- layout: marks, places and lengths
 
@@ -74,8 +74,8 @@ pub fn check_header(bytes: &[u8], mark: [u8; MARK_LENGTH], version: u16) -> Answ
 }
 
 // What an element's words are answered by, from the place of its first that is q or more; `refusal` names that word.
-pub fn words_answer(place: usize, refusal: Refusal) -> Answer
-    ensures { λ a. ⌜ a ≡ wordsAnswer place refusal ⌝ }
+pub fn place_answer(place: usize, refusal: Refusal) -> Answer
+    ensures { λ a. ⌜ a ≡ placeAnswer place refusal ⌝ }
 {
     answers::unless(place == DEGREE, refusal)
 }
@@ -87,11 +87,11 @@ pub struct Places {
 }
 
 // What the words of both are answered by; `first` and `second` name the words at these places.
-pub fn elements_answer(unreduced: Places, first: Refusal, second: Refusal) -> Answer
-    ensures { λ a. ⌜ a ≡ wordsOf unreduced first second ⌝ }
+pub fn places_answer(unreduced: Places, first: Refusal, second: Refusal) -> Answer
+    ensures { λ a. ⌜ a ≡ placesAnswer unreduced first second ⌝ }
 {
-    let one = words_answer(unreduced.first, first);
-    let other = words_answer(unreduced.second, second);
+    let one = place_answer(unreduced.first, first);
+    let other = place_answer(unreduced.second, second);
     answers::and_then(one, other)
 }
 
@@ -141,8 +141,8 @@ pub fn front_answer(read: Elements, first: Refusal, second: Refusal) -> Answer
 {
     let header = read.header;
     let unreduced = read.unreduced;
-    let elements = elements_answer(unreduced, first, second);
-    answers::and_then(header, elements)
+    let words = places_answer(unreduced, first, second);
+    answers::and_then(header, words)
 }
 
 // ---- writers

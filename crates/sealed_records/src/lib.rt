@@ -20,7 +20,7 @@ ghost use Rattle.answers.specs.declared.EncapsulationRecord.the-variants as Kin
 ghost use Rattle.records.specs.Layout.{sealedEntryMark, sealedEntryLength, encapsulationLength};
 ghost use Rattle.records.specs.Records.{c1Word, c2Word, firstOf, secondOf, bodyPart, tagPart, sealedEntryAnswer, sealedEntryBytes};
 ghost use Rattle.records.specs.Records.{c1Of, c2Of, encapsulationAnswer, encapsulationBytes};
-ghost use Rattle.records.specs.Read.{wordsOf, frontOf};
+ghost use Rattle.records.specs.Read.{placesAnswer, frontOf};
 
 // ---- sealed entries
 
@@ -85,11 +85,11 @@ pub fn write_sealed_entry(
 
 // What the words of an encapsulation are answered by; the first that is q or more is named.
 fn words_answer(at: Places) -> Answer
-    ensures { λ a. ⌜ a ≡ wordsOf at (c1Word Kind.Encapsulation (at .first)) (c2Word Kind.Encapsulation (at .second)) ⌝ }
+    ensures { λ a. ⌜ a ≡ placesAnswer at (c1Word Kind.Encapsulation (at .first)) (c2Word Kind.Encapsulation (at .second)) ⌝ }
 {
     let c1 = EncapsulationRecord::Encapsulation(EncapsulationPart::C1(at.first));
     let c2 = EncapsulationRecord::Encapsulation(EncapsulationPart::C2(at.second));
-    records::elements_answer(
+    records::places_answer(
         at,
         Refusal::EncapsulationOutOfRange(c1),
         Refusal::EncapsulationOutOfRange(c2),

@@ -15,7 +15,8 @@ ghost use Rattle.encoding.specs.Words.{firstUnreduced};
 ghost use Rattle.answers.specs.declared.KeyRecord.the-variants.{SeededPublicKey};
 ghost use Rattle.answers.specs.Answers.{andThen};
 ghost use Rattle.records.specs.Layout.{seededKeyMark, seedLength, seededKeyLength};
-ghost use Rattle.records.specs.Records.{headerAnswer, bWord, wordsAnswer, seededB, seededKeyBytes};
+ghost use Rattle.records.specs.Records.{headerAnswer, bWord, seededB, seededKeyBytes};
+ghost use Rattle.records.specs.Read.{placeAnswer};
 
 // What mark and version are answered by, b, and the place of its first word that is q or more. The seed stays where it is lent.
 pub struct SeededKey {
@@ -39,12 +40,12 @@ pub fn read_seeded_key(bytes: &[u8]) -> SeededKey
 
 // What the checks of the record answer: mark, version, then words, of which the first that is q or more is named.
 pub fn record_answer(read: SeededKey) -> Answer
-    ensures { λ a. ⌜ a ≡ andThen (read .header) (wordsAnswer (read .unreduced) (bWord SeededPublicKey (read .unreduced))) ⌝ }
+    ensures { λ a. ⌜ a ≡ andThen (read .header) (placeAnswer (read .unreduced) (bWord SeededPublicKey (read .unreduced))) ⌝ }
 {
     let header = read.header;
     let at = read.unreduced;
     let b = Refusal::KeyOutOfRange(KeyRecord::SeededPublicKey(KeyPart::B(at)));
-    let words = records::words_answer(at, b);
+    let words = records::place_answer(at, b);
     answers::and_then(header, words)
 }
 

@@ -4,14 +4,14 @@ use borrow.Author.Needs.{needs}
 use Rattle.records.proofs.front_answer.Statement.{statement}
 use Rattle.records.proofs.front_answer.Tie as tie
 
-elements-answer-requires : tie.Need-elements-answer-requires
-elements-answer-requires c κs = search needs
+places-answer-requires : tie.Need-places-answer-requires
+places-answer-requires c κs = search needs
 
 and-then-requires : tie.Need-and-then-requires
 and-then-requires c κs = search needs
 
 returns : tie.Need-returns
-returns c = c .and-then .ensures ∙ ap (andThen (c .before .before .before .args .read .header)) (c .before .elements-answer .ensures)
+returns c = c .and-then .ensures ∙ ap (andThen (c .before .before .before .args .read .header)) (c .before .places-answer .ensures)
 
 pub front-answer-spec : {M : Type 1} → statement M
-front-answer-spec = tie.close (tie.spec elements-answer-requires and-then-requires returns)
+front-answer-spec = tie.close (tie.spec places-answer-requires and-then-requires returns)
