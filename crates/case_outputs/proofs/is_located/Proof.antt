@@ -1,6 +1,5 @@
 use mathlib.Core.Path.{_≡_, refl, ap₂, _∙_}
-use mathlib.Core.List.{List}
-use Prim.Native.Nat.{ℕ, _≤_}
+use Prim.Native.Nat.{_≤_}
 use native.Mathlib.Nat.{sub-zero}
 use native.Mathlib.Omega.{arith}
 use lib.ListN.{length, take}
@@ -38,7 +37,8 @@ returns c =
     let told = locationText (c .before .before .before .before .before .before .args .l) in
     let size = text .ensures .1 .0 in
     let room : length told ≤ length (zeros 41) = omega (arith, size, text .ensures .1 .1) in
-    let found = ap₂ take (sub-zero end) (text .ensures .0) ∙ written-front end told (zeros 41) (omega (arith, size)) room ∙ take-all end told (omega (arith, size)) in
+    let front = written-front end told (zeros 41) (omega (arith, size)) room ∙ take-all end told (omega (arith, size)) in
+    let found = ap₂ take (sub-zero end) (text .ensures .0) ∙ front in
     c .same .ensures ∙ ap₂ same? found refl
 
 pub is-located-spec : {M : Type 1} → statement M
