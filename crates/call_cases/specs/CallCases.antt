@@ -1,5 +1,5 @@
 -- When what a call with one output does agrees with what a case tells. The fields of a case are the inputs, with the length of the output
--- last, the number, an empty field, and the output.
+-- last, the number, the location, and the output.
 use mathlib.Core.Bool.{Bool}
 use mathlib.Core.List.{List}
 use Prim.Native.Nat.{ℕ, _+_}
@@ -31,7 +31,7 @@ callOut Open x y z out = openOut x y z out
 callOut Shake128 x y z out = shake128 x (length out)
 callOut Shake256 x y z out = shake256 x (length out)
 
--- the field with the output's length; number, empty field and output follow it
+-- the field with the output's length; number, location and output follow it
 abbrev pub sizeField : Call → ℕ
 sizeField Encapsulate = 2
 sizeField Decapsulate = 3
@@ -49,4 +49,4 @@ outAfter call text out = callOut call (field 0 text) (field 1 text) (field 2 tex
 unfoldable pub callAgrees? : (call : Call) (text out : List ℕ) → Bool
 callAgrees? call text out =
     answerAgrees? (callAnswer call (field 0 text) (field 1 text) (field 2 text) (length out)) (word32 (field (sizeField call + 1) text))
-    (field (sizeField call + 3) text) (outAfter call text out)
+    (field (sizeField call + 2) text) (field (sizeField call + 3) text) (outAfter call text out)

@@ -64,7 +64,8 @@ fn call_agrees(call: Call, text: &[u8], out: &mut [u8]) -> bool
     );
     let at = size_field(call);
     let told = vectors::number(text, at + 1);
-    case_outputs::answer_agrees(answer, told, vectors::field(text, at + 3), out)
+    let words = vectors::field(text, at + 2);
+    case_outputs::answer_agrees(answer, told, words, vectors::field(text, at + 3), out)
 }
 
 pub fn call_case_agrees(call: Call, text: &[u8]) -> bool

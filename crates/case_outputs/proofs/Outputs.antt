@@ -11,6 +11,9 @@ use Rattle.lists.proofs.Parts.{length-part}
 use Rattle.case_outputs.specs.Outputs.{room, filler, filled, output}
 
 -- one function of equal arguments
+pub ap₃ : {A B C D : Type 0} (f : A → B → C → D) {a a′ : A} {b b′ : B} {c c′ : C} → a ≡ a′ → b ≡ b′ → c ≡ c′ → f a b c ≡ f a′ b′ c′
+ap₃ {A} {B} f {a} {a′} {b} {b′} {c} {c′} p q r = ap₂ (λ (x : A) (y : B). f x y c) p q ∙ ap (f a′ b′) r
+
 pub ap₄ : {A B C D E : Type 0} (f : A → B → C → D → E) {a a′ : A} {b b′ : B} {c c′ : C} {d d′ : D}
     → a ≡ a′ → b ≡ b′ → c ≡ c′ → d ≡ d′ → f a b c d ≡ f a′ b′ c′ d′
 ap₄ {A} {B} f {a} {a′} {b} {b′} {c} {c′} {d} {d′} p q r s = ap₂ (λ (x : A) (y : B). f x y c d) p q ∙ ap₂ (f a′ b′) r s

@@ -1,4 +1,4 @@
--- The outputs of a case: before the call, and when they are what the case tells after it.
+-- The answer and the outputs of a case: outputs before the call, and when they and the answer are what the case tells after it.
 use mathlib.Core.Bool.{Bool, _&&_, cond}
 use mathlib.Core.List.{List}
 use Prim.Native.Nat.{ℕ, min}
@@ -6,6 +6,8 @@ use lib.Dec.{eqb}
 use lib.ListN.{length, replicate}
 use Rattle.answers.specs.declared.Answer.{Answer}
 use Rattle.answers.specs.Answers.{number}
+use Rattle.answers.specs.Locations.{location}
+use Rattle.location_text.specs.Words.{locationText}
 use Rattle.vectors.specs.Fields.{word32, field}
 use Rattle.vectors.specs.Answers.{same?}
 
@@ -30,6 +32,10 @@ filled buffer = replicate (length buffer) filler
 abbrev pub outputAgrees? : (told : ℕ) (bytes after : List ℕ) → Bool
 outputAgrees? told bytes after = cond (eqb told 0) (same? after bytes) (eqb (length bytes) 0 && same? after (filled after))
 
--- the number is the one that is told, and the output is what is told
-unfoldable pub answerAgrees? : (answer : Answer) (told : ℕ) (bytes after : List ℕ) → Bool
-answerAgrees? answer told bytes after = eqb (number answer) told && outputAgrees? told bytes after
+-- the number is the one that is told, and so is the location, in words: nothing for an answer that names no word
+unfoldable pub answerTold? : (answer : Answer) (told : ℕ) (words : List ℕ) → Bool
+answerTold? answer told words = eqb (number answer) told && same? (locationText (location answer)) words
+
+-- the answer is the one that is told, and the output is what is told
+unfoldable pub answerAgrees? : (answer : Answer) (told : ℕ) (words bytes after : List ℕ) → Bool
+answerAgrees? answer told words bytes after = answerTold? answer told words && outputAgrees? told bytes after

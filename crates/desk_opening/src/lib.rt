@@ -1,5 +1,6 @@
-// What the desk program answers to an input of the right length, and the entry that it finds.
+// What the desk program answers, and the entry that it finds in an input of the right length.
 use answers::Answer;
+use answers::Refusal;
 use keys::TRIPLE_NOISE_LENGTH;
 use octets::BLOCK_LENGTH;
 use records::SEALED_ENTRY_LENGTH;
@@ -44,4 +45,15 @@ pub fn open_input(input: &[u8]) -> Opened
         &input[SEALED..DUMMY],
         &input[DUMMY..INPUT_LENGTH],
     )
+}
+
+// What is answered to an input of any length.
+pub fn answer(input: &[u8]) -> Answer
+    ensures { λ a. ⌜ a ≡ deskAnswer (now (input .entry)) ⌝ }
+{
+    if input.len() != INPUT_LENGTH {
+        return Answer::Refused(Refusal::WrongLength);
+    }
+    let opened = open_input(input);
+    opened.answer
 }

@@ -1,20 +1,18 @@
 -- When what key making, and the check of a key, do agrees with what a case tells. The fields of a case are the inputs, with the lengths of the
--- outputs last, the number, an empty field, and the outputs.
+-- outputs last, the number, the location, and the outputs.
 use mathlib.Core.Bool.{Bool, _&&_}
 use mathlib.Core.List.{List}
 use Prim.Native.Nat.{ℕ}
-use lib.Dec.{eqb}
 use lib.ListN.{length}
 use Rattle.answers.specs.declared.Answer.{Answer}
-use Rattle.answers.specs.Answers.{number}
 use Rattle.calls.specs.Calls.{checkAnswer, keygenAnswer, keygenPublic, keygenSecret, seededKeygenAnswer, seededKeygenPublic, seededKeygenSecret}
 use Rattle.vectors.specs.Fields.{word32, field}
-use Rattle.case_outputs.specs.Outputs.{answerAgrees?}
+use Rattle.case_outputs.specs.Outputs.{answerTold?, answerAgrees?}
 use Rattle.key_cases.specs.declared.Source.{Source}
 use Rattle.key_cases.specs.declared.Source.the-variants.{Stream, Seed}
 
 abbrev pub checkAgrees? : List ℕ → Bool
-checkAgrees? text = eqb (number (checkAnswer (field 0 text))) (word32 (field 1 text))
+checkAgrees? text = answerTold? (checkAnswer (field 0 text)) (word32 (field 1 text)) (field 2 text)
 
 -- ---- key making, by its first input
 
@@ -33,7 +31,8 @@ generationSecret Seed first s e public secret = seededKeygenSecret first s e pub
 -- what it answered and wrote is what is told
 abbrev pub keysAgree? : (text : List ℕ) (answer : Answer) (public secret : List ℕ) → Bool
 keysAgree? text answer public secret =
-    answerAgrees? answer (word32 (field 5 text)) (field 7 text) public && answerAgrees? answer (word32 (field 5 text)) (field 8 text) secret
+    answerAgrees? answer (word32 (field 5 text)) (field 6 text) (field 7 text) public
+    && answerAgrees? answer (word32 (field 5 text)) (field 6 text) (field 8 text) secret
 
 -- the outputs after the call, where they hold `public` and `secret` before it
 unfoldable pub publicAfter : (source : Source) (text public secret : List ℕ) → List ℕ

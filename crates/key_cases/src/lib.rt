@@ -12,7 +12,7 @@ pub fn check_agrees(text: &[u8]) -> bool
     ensures { λ r. ⌜ r ≡ checkAgrees? (now (text .entry)) ⌝ }
 {
     let answer = key_calls::check_secret_key(vectors::field(text, 0));
-    answers::number(answer) == vectors::number(text, 1)
+    case_outputs::is_told(answer, vectors::number(text, 1), vectors::field(text, 2))
 }
 
 // ---- keygen
@@ -46,8 +46,9 @@ fn keys_agree(text: &[u8], answer: Answer, public: &[u8], secret: &[u8]) -> bool
     ensures { λ r. ⌜ r ≡ keysAgree? (now (text .entry)) answer (now (public .entry)) (now (secret .entry)) ⌝ }
 {
     let told = vectors::number(text, 5);
-    case_outputs::answer_agrees(answer, told, vectors::field(text, 7), public)
-        & case_outputs::answer_agrees(answer, told, vectors::field(text, 8), secret)
+    let words = vectors::field(text, 6);
+    case_outputs::answer_agrees(answer, told, words, vectors::field(text, 7), public)
+        & case_outputs::answer_agrees(answer, told, words, vectors::field(text, 8), secret)
 }
 
 fn keygen_agrees(source: Source, text: &[u8], public: &mut [u8], secret: &mut [u8]) -> bool

@@ -6,6 +6,8 @@ use lib.Dec.{eqb}
 use lib.ListN.{length, getD, take}
 use Rattle.modq.specs.Modulus.{q}
 use Rattle.sampling.specs.Noise.{ternaryNoise}
+use Rattle.answers.specs.Answers.{number}
+use Rattle.desk_opening.specs.Input.{deskAnswer}
 use Rattle.desk_line.specs.Line.{deskLine}
 use Rattle.vectors.specs.declared.Verdict.{Verdict}
 use Rattle.vectors.specs.Fields.{word32, field, hasField}
@@ -40,8 +42,12 @@ noiseAgrees? text = eqb (word32 (field 1 text)) 0 && eqb (getD (ternaryNoise (fi
 abbrev pub withoutFeed : List ℕ → List ℕ
 withoutFeed line = take (length line - 1) line
 
+abbrev pub lineAgrees? : List ℕ → Bool
+lineAgrees? text = same? (withoutFeed (deskLine (field 0 text))) (field 3 text)
+
+-- the number and the line; no location is told, as the desk prints none
 abbrev pub deskAgrees? : List ℕ → Bool
-deskAgrees? text = same? (withoutFeed (deskLine (field 0 text))) (field 3 text)
+deskAgrees? text = eqb (number (deskAnswer (field 0 text))) (word32 (field 1 text)) && eqb (length (field 2 text)) 0 && lineAgrees? text
 
 abbrev pub agrees? : Kind → List ℕ → Bool
 agrees? CheckSecretKey text = checkAgrees? text

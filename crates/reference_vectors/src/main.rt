@@ -5,7 +5,7 @@ ghost use mathlib.Core.Path.{_≡_};
 ghost use Prim.Native.Nat.{_+_, _≤_};
 ghost use Rattle.vectors.specs.Answers.{report};
 ghost use Rattle.reference_vectors.specs.Cases.{lastField};
-ghost use Rattle.reference_vectors.specs.Cases.{residueOf, noiseAgrees?, deskAgrees?, agrees?, verdict};
+ghost use Rattle.reference_vectors.specs.Cases.{residueOf, noiseAgrees?, lineAgrees?, deskAgrees?, agrees?, verdict};
 use call_cases::Call;
 use key_cases::Source;
 use vectors::Report;
@@ -41,13 +41,22 @@ fn noise_agrees(text: &[u8]) -> bool
 // ---- the desk
 
 // The line that the desk prints, without its line feed.
-fn desk_agrees(text: &[u8]) -> bool
-    ensures { λ r. ⌜ r ≡ deskAgrees? (now (text .entry)) ⌝ }
+fn line_agrees(text: &[u8]) -> bool
+    ensures { λ r. ⌜ r ≡ lineAgrees? (now (text .entry)) ⌝ }
 {
     let line = desk_line::line(vectors::field(text, 0));
     let bytes = line.bytes;
     let end = line.length - 1;
     vectors::same(&bytes[0..end], vectors::field(text, 3))
+}
+
+// Number and line. The desk prints no location, so a case tells none.
+fn desk_agrees(text: &[u8]) -> bool
+    ensures { λ r. ⌜ r ≡ deskAgrees? (now (text .entry)) ⌝ }
+{
+    let answer = desk_opening::answer(vectors::field(text, 0));
+    let numbered = answers::number(answer) == vectors::number(text, 1);
+    numbered & (vectors::field(text, 2).len() == 0) & line_agrees(text)
 }
 
 // ---- cases

@@ -1,13 +1,13 @@
 -- Texts put into a buffer one behind the other, from a place on, and how long a line may be.
 use mathlib.Core.Path.{_≡_, refl, sym, ap, _∙_}
-use mathlib.Core.Bool.{Bool, true, false, _&&_, cond}
+use mathlib.Core.Bool.{_&&_}
 use mathlib.Core.List.{List, _++_, append-assoc}
 use Prim.Native.Nat.{ℕ, _+_, _≤_}
 use native.Mathlib.Omega.{arith}
 use lib.Dec.{eqb}
 use lib.ListN.{length, take, drop, take-append-drop, length-append}
 use lib.Seq.{length-take-le}
-use Rattle.text.proofs.Texts.{Put, written-fits, put-more}
+use Rattle.text.proofs.Texts.{Put, written-fits, either-most, put-more}
 use Rattle.text.proofs.Decimals.{length-digits}
 use Rattle.vectors.specs.declared.Contents.{Contents}
 use Rattle.vectors.specs.declared.Contents.the-variants.{Bytes, TooLong, Missing}
@@ -39,10 +39,6 @@ module _ (at : ℕ) (old : List ℕ) (within : at ≤ length old) where
 
 -- ---- how long a line may be
 
-either : (b : Bool) (l m : List ℕ) (most : ℕ) → length l ≤ most → length m ≤ most → length (cond b l m) ≤ most
-either true l m most p q = p
-either false l m most p q = q
-
 malformed-most : (what : List ℕ) (place : ℕ) → length (malformedText what place) ≤ 33 + length what
 unfolding malformedText
 malformed-most what place = simp length-append (omega (arith, length-digits 20 place))
@@ -53,7 +49,7 @@ counts-most agreed differed = simp length-append (omega (arith, length-digits 20
 
 report-most : (report : Report) → length (reportText report) ≤ 58
 report-most (Counts agreed differed) =
-    either (eqb agreed 0 && eqb differed 0) (malformedText byteName 0) (countsText agreed differed) 58 (omega (arith, malformed-most byteName 0))
+    either-most (eqb agreed 0 && eqb differed 0) (malformedText byteName 0) (countsText agreed differed) 58 (omega (arith, malformed-most byteName 0))
     (counts-most agreed differed)
 report-most (MalformedByte place) = omega (arith, malformed-most byteName place)
 report-most (MalformedLine place) = omega (arith, malformed-most lineName place)

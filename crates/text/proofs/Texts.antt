@@ -1,5 +1,6 @@
 -- A text that is put into a buffer piece by piece.
 use mathlib.Core.Path.{_≡_, refl, sym, ap, ap₂, _∙_}
+use mathlib.Core.Bool.{Bool, true, false, cond}
 use mathlib.Core.List.{List, [], _++_, append-assoc, append-nil}
 use Prim.Native.Nat.{ℕ, _+_, _-_, _≤_, min}
 use native.Mathlib.Decide.{decLe}
@@ -15,6 +16,15 @@ written-fits s out h = rw (take-all (length out) s h)
 -- the buffer is full before the text ends
 pub written-full : (s out : List ℕ) → length out ≤ length s → written s out ≡ take (length out) s
 written-full s out h = rw (drop-of-length-le out {i = length s} h) (append-nil _)
+
+-- the front of a text that there is room for
+pub written-front : (k : ℕ) (s out : List ℕ) → k ≤ length s → length s ≤ length out → take k (written s out) ≡ take k s
+written-front k s out h room = ap (take k) (written-fits s out room) ∙ take-append-le k s _ h
+
+-- one of two texts, of which neither is longer than this
+pub either-most : (b : Bool) (l m : List ℕ) (most : ℕ) → length l ≤ most → length m ≤ most → length (cond b l m) ≤ most
+either-most true l m most p q = p
+either-most false l m most p q = q
 
 -- n bytes were copied, which is all that there is room for
 pub copied : (s out : List ℕ) (n : ℕ) → n ≡ min (length s) (length out) → take n s ++ drop n out ≡ written s out

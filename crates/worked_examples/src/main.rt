@@ -4,6 +4,7 @@ ghost use mathlib.Core.Path.{_≡_};
 ghost use lib.ListN.{length};
 ghost use Rattle.records.specs.Layout.{tripleLength};
 use answers::Answer;
+use answers::Location;
 use encoding::TERNARY_LENGTH;
 use keys::TRIPLE_NOISE_LENGTH;
 use libc::STDOUT_FILENO;
@@ -25,8 +26,20 @@ fn print_text(text: &[u8]) {
     io::write_all(STDOUT_FILENO, text);
 }
 
+// The words of a location behind a comma; nothing where no word is named.
+fn print_location(l: Location) {
+    let words = location_text::words(l);
+    let bytes = words.bytes;
+    let length = words.length;
+    if length != 0 {
+        print_text(b", ");
+        print_text(&bytes[0..length]);
+    }
+}
+
 fn print_answer(answer: Answer) {
     io::print_decimal(STDOUT_FILENO, answers::number(answer) as u64);
+    print_location(answers::locate(answer));
 }
 
 fn print_answered(name: &[u8], answer: Answer) {
@@ -195,7 +208,7 @@ fn print_streams() {
     );
 }
 
-// ---- word 59,393 in a record
+// ---- word 59,393 in a record: 4 in a key, and 11 where document 01 has 4 for the others (document 02, No. 3)
 
 fn print_public_key_word() {
     let key = example_records::public_key(59393, 5);

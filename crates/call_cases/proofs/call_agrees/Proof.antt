@@ -6,7 +6,7 @@ use denote.Ref.{now}
 use Rattle.vectors.specs.Fields.{word32, field}
 use Rattle.case_outputs.specs.Outputs.{answerAgrees?}
 use Rattle.call_cases.specs.CallCases.{callAnswer, callOut, outAfter, callAgrees?}
-use Rattle.case_outputs.proofs.Outputs.{ap₄}
+use Rattle.case_outputs.proofs.Outputs.{ap₄, ap₅}
 use borrow.Author.Needs.{needs}
 use Rattle.call_cases.proofs.call_agrees.Statement.{statement}
 use Rattle.call_cases.proofs.call_agrees.Tie as tie
@@ -41,6 +41,12 @@ add-field c = search needs
 field-requires-4 : tie.Need-field-requires-4
 field-requires-4 c κs = search needs
 
+add-field-2 : tie.Need-add-field-2
+add-field-2 c = search needs
+
+field-requires-5 : tie.Need-field-requires-5
+field-requires-5 c κs = search needs
+
 answer-agrees-requires : tie.Need-answer-agrees-requires
 answer-agrees-requires c κs = search needs
 
@@ -50,7 +56,8 @@ same-length c = search needs
 returns : tie.Need-returns
 unfolding callAgrees? outAfter
 returns c =
-    let told = c .before .before .before in
+    let words = c .before .before .before in
+    let told = words .before in
     let place = told .before in
     let ran = place .before .before .before in
     let inputs = ran .before .before in
@@ -62,10 +69,11 @@ returns c =
     let out = filled .fill .ensures in
     let out-is = ran .run .ensures .1 ∙ ap₄ (callOut (args .call)) x y z out in (
       c .answer-agrees .ensures
-          ∙ ap₄ answerAgrees?
+          ∙ ap₅ answerAgrees?
           (ran .run .ensures .0 ∙ ap₄ (λ (x y z out : List ℕ). callAnswer (args .call) x y z (length out)) x y z out)
           (told .number .ensures ∙ ap (λ (k : ℕ). word32 (field (k + 1) (now (args .text)))) (place .size-field .ensures .0))
-          (c .before .before .field4 .ensures ∙ ap (λ (k : ℕ). field (k + 3) (now (args .text))) (place .size-field .ensures .0))
+          (words .field4 .ensures ∙ ap (λ (k : ℕ). field (k + 2) (now (args .text))) (place .size-field .ensures .0))
+          (c .before .before .field5 .ensures ∙ ap (λ (k : ℕ). field (k + 3) (now (args .text))) (place .size-field .ensures .0))
           out-is,
       out-is,
     )
@@ -84,6 +92,8 @@ call-agrees-spec =
     number-requires
     add-field
     field-requires-4
+    add-field-2
+    field-requires-5
     answer-agrees-requires
     same-length
     returns)

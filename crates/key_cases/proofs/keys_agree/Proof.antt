@@ -1,7 +1,7 @@
 use mathlib.Core.Path.{refl, ap₂, _∙_}
 use mathlib.Core.Bool.{_&&_}
 use Rattle.case_outputs.specs.Outputs.{answerAgrees?}
-use Rattle.case_outputs.proofs.Outputs.{ap₄}
+use Rattle.case_outputs.proofs.Outputs.{ap₅}
 use borrow.Author.Needs.{needs}
 use Rattle.key_cases.proofs.keys_agree.Statement.{statement}
 use Rattle.key_cases.proofs.keys_agree.Tie as tie
@@ -12,11 +12,14 @@ number-requires c κs = search needs
 field-requires : tie.Need-field-requires
 field-requires c κs = search needs
 
+field-requires-2 : tie.Need-field-requires-2
+field-requires-2 c κs = search needs
+
 answer-agrees-requires : tie.Need-answer-agrees-requires
 answer-agrees-requires c κs = search needs
 
-field-requires-2 : tie.Need-field-requires-2
-field-requires-2 c κs = search needs
+field-requires-3 : tie.Need-field-requires-3
+field-requires-3 c κs = search needs
 
 answer-agrees-requires-2 : tie.Need-answer-agrees-requires-2
 answer-agrees-requires-2 c κs = search needs
@@ -24,10 +27,12 @@ answer-agrees-requires-2 c κs = search needs
 returns : tie.Need-returns
 returns c =
     let public = c .before .before in
-    let told = public .before .before .number .ensures in
+    let located = public .before .before in
+    let told = located .before .number .ensures in
+    let words = located .field .ensures in
     ap₂ _&&_
-    (public .answer-agrees .ensures ∙ ap₄ answerAgrees? refl told (public .before .field .ensures) refl)
-    (c .answer-agrees2 .ensures ∙ ap₄ answerAgrees? refl told (c .before .field2 .ensures) refl)
+    (public .answer-agrees .ensures ∙ ap₅ answerAgrees? refl told words (public .before .field2 .ensures) refl)
+    (c .answer-agrees2 .ensures ∙ ap₅ answerAgrees? refl told words (c .before .field3 .ensures) refl)
 
 pub keys-agree-spec : {M : Type 1} → statement M
 keys-agree-spec =
@@ -35,7 +40,8 @@ keys-agree-spec =
     (tie.spec
     number-requires
     field-requires
-    answer-agrees-requires
     field-requires-2
+    answer-agrees-requires
+    field-requires-3
     answer-agrees-requires-2
     returns)

@@ -1,0 +1,2 @@
+-- What the contracts of `location_text` cite.
+pub mod Words
