@@ -35,7 +35,7 @@ fn output_agrees(told: u32, bytes: &[u8], after: &[u8]) -> bool
 }
 
 // Whether a location in words is this one.
-fn is_located(l: Location, words: &[u8]) -> bool
+pub fn is_located(l: Location, words: &[u8]) -> bool
     ensures { λ r. ⌜ r ≡ same? (locationText l) (now (words .entry)) ⌝ }
 {
     let text = location_text::words(l);

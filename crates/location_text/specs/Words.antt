@@ -5,6 +5,7 @@ use Prim.Native.Nat.{ℕ}
 use lib.Dec.{eqb}
 use Rattle.text.specs.Text.{decimal}
 use Rattle.answers.specs.declared.Location.{Location}
+use Rattle.answers.specs.Locations.{publicKey, seededPublicKey, secretKey, sealedEntry, encapsulation, aPart, bPart, c1Part, c2Part}
 
 -- ---- records and parts by their codes; no name for a code that no answer has
 
@@ -30,20 +31,20 @@ encapsulationName = 101 ∷ 110 ∷ 99 ∷ 97 ∷ 112 ∷ 115 ∷ 117 ∷ 108 �
 
 abbrev pub recordName : (kind : ℕ) → List ℕ
 recordName kind =
-    cond (eqb kind 1) publicKeyName
-    (cond (eqb kind 2) seededKeyName
-    (cond (eqb kind 3) secretKeyName
-    (cond (eqb kind 4) sealedEntryName
-    (cond (eqb kind 5) encapsulationName
+    cond (eqb kind publicKey) publicKeyName
+    (cond (eqb kind seededPublicKey) seededKeyName
+    (cond (eqb kind secretKey) secretKeyName
+    (cond (eqb kind sealedEntry) sealedEntryName
+    (cond (eqb kind encapsulation) encapsulationName
     []))))
 
 -- `a`, `b`, `c1`, `c2`
 abbrev pub partName : (part : ℕ) → List ℕ
 partName part =
-    cond (eqb part 1) (97 ∷ [])
-    (cond (eqb part 2) (98 ∷ [])
-    (cond (eqb part 4) (99 ∷ 49 ∷ [])
-    (cond (eqb part 5) (99 ∷ 50 ∷ [])
+    cond (eqb part aPart) (97 ∷ [])
+    (cond (eqb part bPart) (98 ∷ [])
+    (cond (eqb part c1Part) (99 ∷ 49 ∷ [])
+    (cond (eqb part c2Part) (99 ∷ 50 ∷ [])
     [])))
 
 -- ---- the location

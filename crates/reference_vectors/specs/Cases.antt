@@ -1,5 +1,5 @@
 -- The cases of the public calls, of the noise and of the desk: their fields, and when what is done agrees with what a case tells.
-use mathlib.Core.Bool.{Bool, _&&_}
+use mathlib.Core.Bool.{Bool, _&&_, _||_}
 use mathlib.Core.List.{List}
 use Prim.Native.Nat.{ℕ, _+_, _-_, _%_}
 use lib.Dec.{eqb}
@@ -7,6 +7,8 @@ use lib.ListN.{length, getD, take}
 use Rattle.modq.specs.Modulus.{q}
 use Rattle.sampling.specs.Noise.{ternaryNoise}
 use Rattle.answers.specs.Answers.{number}
+use Rattle.answers.specs.Locations.{location}
+use Rattle.location_text.specs.Words.{locationText}
 use Rattle.desk_opening.specs.Input.{deskAnswer}
 use Rattle.desk_line.specs.Line.{deskLine}
 use Rattle.vectors.specs.declared.Verdict.{Verdict}
@@ -45,9 +47,13 @@ withoutFeed line = take (length line - 1) line
 abbrev pub lineAgrees? : List ℕ → Bool
 lineAgrees? text = same? (withoutFeed (deskLine (field 0 text))) (field 3 text)
 
--- the number and the line; no location is told, as the desk prints none
+-- the location, or nothing, as the desk prints none
+abbrev pub deskLocated? : List ℕ → Bool
+deskLocated? text = eqb (length (field 2 text)) 0 || same? (locationText (location (deskAnswer (field 0 text)))) (field 2 text)
+
+-- number, location and line
 abbrev pub deskAgrees? : List ℕ → Bool
-deskAgrees? text = eqb (number (deskAnswer (field 0 text))) (word32 (field 1 text)) && eqb (length (field 2 text)) 0 && lineAgrees? text
+deskAgrees? text = eqb (number (deskAnswer (field 0 text))) (word32 (field 1 text)) && deskLocated? text && lineAgrees? text
 
 abbrev pub agrees? : Kind → List ℕ → Bool
 agrees? CheckSecretKey text = checkAgrees? text

@@ -50,13 +50,15 @@ fn line_agrees(text: &[u8]) -> bool
     vectors::same(&bytes[0..end], vectors::field(text, 3))
 }
 
-// Number and line. The desk prints no location, so a case tells none.
+// Number, location where the case tells one, and line. The desk prints no location, so a case may tell none.
 fn desk_agrees(text: &[u8]) -> bool
     ensures { λ r. ⌜ r ≡ deskAgrees? (now (text .entry)) ⌝ }
 {
     let answer = desk_opening::answer(vectors::field(text, 0));
     let numbered = answers::number(answer) == vectors::number(text, 1);
-    numbered & (vectors::field(text, 2).len() == 0) & line_agrees(text)
+    let words = vectors::field(text, 2);
+    let located = case_outputs::is_located(answers::locate(answer), words);
+    numbered & ((words.len() == 0) | located) & line_agrees(text)
 }
 
 // ---- cases

@@ -121,30 +121,34 @@ pub fn compare_shake256(calls: &Calls) {
     compare(calls, "vectors, shake256", "shake256", Call::Shake256, 1, 1);
 }
 
-/// The desk program's line for its standard input: of the answer it has the number alone.
+/// The desk program's code and line for its standard input; the line has the number alone.
 pub fn desk_line(calls: &Calls, input: &[u8]) -> (u32, String) {
     if input.len() != 10_026 {
         return (1, "1 -\n".into());
     }
     let inputs = vec![input[..4357].to_vec(), input[4357..8490].to_vec(), input[8490..].to_vec()];
     let Outcome { code, outputs } = run(calls, &Case { name: "desk".into(), call: Call::Open, inputs, outputs: vec![16] });
-    let number = answers::number(code);
-    if number != 0 {
-        return (number, format!("{number} -\n"));
+    if code != 0 {
+        return (code, format!("{} -\n", answers::number(code)));
     }
     let digits: String = outputs[0].iter().map(|byte| format!("{byte:02x}")).collect();
     (0, format!("0 {digits}\n"))
 }
 
-/// The desk's inputs, opened by the call: number and line. There is no location.
+/// Whether a case of the desk tells this code: the number, and the location or none, as the desk prints none.
+pub fn desk_told(vector: &Vector, code: u32) -> bool {
+    let located = vector.location.is_empty() || answers::code(vector.number, &vector.location) == code;
+    answers::number(code) == vector.number && located
+}
+
+/// The desk's inputs, opened by the call: code and line.
 pub fn compare_desk(calls: &Calls) {
     let mut count = Count::new("vectors, desk");
     for vector in read("desk", 1, 1) {
-        let (number, line) = desk_line(calls, &vector.inputs[0]);
+        let (code, line) = desk_line(calls, &vector.inputs[0]);
         // the files have the line with or without its line feed
         let same = |bytes: &[u8]| bytes == line.as_bytes() || bytes == line.trim_end().as_bytes();
-        let answer = number == vector.number && vector.location.is_empty();
-        count.agree(&vector.name, answer && (vector.outputs[0].is_empty() || same(&vector.outputs[0])));
+        count.agree(&vector.name, desk_told(&vector, code) && (vector.outputs[0].is_empty() || same(&vector.outputs[0])));
     }
     count.finish();
 }
