@@ -1,7 +1,7 @@
 -- Laws of codes: number and location are read back from the code of an answer, and it is 0 exactly under Done.
-use mathlib.Core.Path.{_≡_, refl, sym, ap, ap₂, _∙_}
+use mathlib.Core.Path.{_≡_, refl, ap, _∙_}
 use mathlib.Core.Logic.{_↔_}
-use Prim.Native.Nat.{ℕ, _+_, _*_, _/_, _%_, _<_}
+use Prim.Native.Nat.{ℕ, _/_, _%_, _<_}
 use native.Mathlib.Omega.{arith}
 use Rattle.answers.specs.declared.KeyPart.{KeyPart}
 use Rattle.answers.specs.declared.KeyPart.the-variants.{A, B}
@@ -18,7 +18,8 @@ use Rattle.answers.specs.declared.Answer.{Answer}
 use Rattle.answers.specs.declared.Answer.the-variants.{Done, Refused}
 use Rattle.answers.specs.declared.Location.{Location}
 use Rattle.answers.specs.Answers.{refusalNumber, number}
-use Rattle.answers.specs.Locations.{at, nowhere, inKeyPart, inKey, inEncapsulationPart, inEncapsulation, refusalLocation, location, pack, code, codeNumber, codeLocation}
+use Rattle.answers.specs.Locations.{at, nowhere, inKeyPart, inKey, inEncapsulationPart, inEncapsulation, refusalLocation, location}
+use Rattle.answers.specs.Locations.{pack, code, codeNumber, codeLocation}
 use Rattle.answers.proofs.AnswerLaws.{number-done, Never}
 
 -- ---- a field's value fits its bits

@@ -3,7 +3,8 @@ use mathlib.Core.Bool.{Bool, true, false}
 use mathlib.Core.List.{List}
 use Prim.Native.Nat.{ℕ}
 use Rattle.answers.specs.declared.Refusal.{Refusal}
-use Rattle.answers.specs.declared.Refusal.the-variants.{WrongLength, WrongMark, WrongVersion, KeyOutOfRange, InvalidCode, NotInvertible, KeyMismatch, StreamExhausted, DecapsulationFailure, TagMismatch, EncapsulationOutOfRange}
+use Rattle.answers.specs.declared.Refusal.the-variants.{WrongLength, WrongMark, WrongVersion, KeyOutOfRange, InvalidCode, NotInvertible, KeyMismatch}
+use Rattle.answers.specs.declared.Refusal.the-variants.{StreamExhausted, DecapsulationFailure, TagMismatch, EncapsulationOutOfRange}
 use Rattle.answers.specs.declared.Answer.{Answer}
 use Rattle.answers.specs.declared.Answer.the-variants.{Done, Refused}
 

@@ -10,7 +10,8 @@ use Rattle.answers.specs.declared.EncapsulationPart.the-variants.{C1, C2
 use Rattle.answers.specs.declared.EncapsulationRecord.{EncapsulationRecord}
 use Rattle.answers.specs.declared.EncapsulationRecord.the-variants.{SealedEntry, Encapsulation}
 use Rattle.answers.specs.declared.Refusal.{Refusal}
-use Rattle.answers.specs.declared.Refusal.the-variants.{WrongLength, WrongMark, WrongVersion, KeyOutOfRange, InvalidCode, NotInvertible, KeyMismatch, StreamExhausted, DecapsulationFailure, TagMismatch, EncapsulationOutOfRange}
+use Rattle.answers.specs.declared.Refusal.the-variants.{WrongLength, WrongMark, WrongVersion, KeyOutOfRange, InvalidCode, NotInvertible, KeyMismatch}
+use Rattle.answers.specs.declared.Refusal.the-variants.{StreamExhausted, DecapsulationFailure, TagMismatch, EncapsulationOutOfRange}
 use Rattle.answers.specs.declared.Answer.{Answer}
 use Rattle.answers.specs.declared.Answer.the-variants.{Done, Refused}
 use Rattle.answers.specs.declared.Location.{Location}

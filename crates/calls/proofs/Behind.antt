@@ -2,7 +2,6 @@
 use mathlib.Core.Path.{_≡_}
 use mathlib.Core.List.{List}
 use Prim.Native.Nat.{ℕ, _<_}
-use native.Mathlib.Omega.{arith}
 use Rattle.scheme.specs.Scheme.{Outcome, found, failed}
 use Rattle.derivation.specs.Derivation.{genuine?}
 use Rattle.answers.specs.declared.Refusal.the-variants.{TagMismatch}

@@ -9,9 +9,7 @@ use lib.ListN.{length}
 use Rattle.answers.specs.declared.Refusal.the-variants.{WrongLength}
 use Rattle.answers.specs.declared.Answer.{Answer}
 use Rattle.answers.specs.declared.Answer.the-variants.{Done}
-use Rattle.answers.specs.declared.Location.{Location}
-use Rattle.answers.specs.Answers.{number, unless, andThen}
-use Rattle.answers.specs.Locations.{nowhere, location, Names}
+use Rattle.answers.specs.Answers.{number, unless}
 use Rattle.records.specs.Records.{firstOf, secondOf, bodyPart, tagPart, sealedEntryAnswer, c1Of, c2Of, encapsulationAnswer}
 use Rattle.triples.specs.Triple.{tripleOf}
 use Rattle.seeds.specs.Seeds.{seedStream}

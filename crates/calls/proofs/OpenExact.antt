@@ -1,5 +1,5 @@
 -- Demand 3 of opening a sealed entry.
-use mathlib.Core.Path.{_≡_, sym, ap, _∙_}
+use mathlib.Core.Path.{_≡_, ap, _∙_}
 use mathlib.Core.Logic.{Iff·trans}
 use mathlib.Core.List.{List}
 use Prim.Native.Nat.{ℕ}

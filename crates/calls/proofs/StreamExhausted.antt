@@ -1,11 +1,6 @@
 -- When 8 is said.
-use mathlib.Core.Path.{_≡_}
-use mathlib.Core.Logic.{_↔_, Iff·rfl, Iff·trans}
-use mathlib.Core.List.{List}
-use Prim.Native.Nat.{ℕ}
+use mathlib.Core.Logic.{Iff·rfl, Iff·trans}
 use native.Mathlib.Omega.{arith}
-use lib.ListN.{length}
-use Rattle.answers.specs.Answers.{number}
 use Rattle.seeds.specs.Seeds.{seedStream}
 use Rattle.public_keys.specs.PublicKeys.{publicAnswer}
 use Rattle.calls.specs.Calls.{keygenAnswer, seededKeygenAnswer, encapsulateAnswer, sealAnswer}

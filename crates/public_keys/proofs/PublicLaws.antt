@@ -16,7 +16,7 @@ use Rattle.seeds.specs.Seeds.{seedStream}
 use Rattle.answers.specs.declared.Refusal.the-variants as Refusal
 use Rattle.answers.specs.declared.Answer.the-variants.{Done}
 use Rattle.answers.specs.declared.Location.{Location}
-use Rattle.answers.specs.Answers.{number, unless, andThen}
+use Rattle.answers.specs.Answers.{number, andThen}
 use Rattle.answers.specs.Locations.{Names}
 use Rattle.records.specs.Layout.{publicKeyMark, publicKeyLength, seededKeyLength}
 use Rattle.records.specs.Records.{secondOf, seedOf, seededB}

@@ -1,14 +1,14 @@
 -- Words that are named: the checks of a record's words name the first that is q or more, and no other.
 use mathlib.Core.Path.{_≡_, refl, sym, ap, _∙_}
 use mathlib.Core.Bool.{Bool, true, false}
-use mathlib.Core.Logic.{_↔_, _⊎_, ⊎-map, Iff·rfl, Iff·trans, Iff·and}
+use mathlib.Core.Logic.{_↔_, _⊎_, ⊎-map, Iff·trans, Iff·and}
 use mathlib.Core.List.{List}
-use Prim.Native.Nat.{ℕ, _<_, _≤_}
+use Prim.Native.Nat.{ℕ, _<_}
 use native.Mathlib.Omega.{arith}
 use lib.Dec.{eqb}
 use lib.ListN.{length}
-use borrow.Author.Tests.{eqb-true, eqb-false, ne-eqb}
-use Rattle.ring.specs.Ring.{q, n, Element}
+use borrow.Author.Tests.{eqb-false, ne-eqb}
+use Rattle.ring.specs.Ring.{q, n}
 use Rattle.encoding.specs.Words.{firstUnreduced}
 use Rattle.encoding.specs.Header.{hasMark, versionOf}
 use Rattle.encoding.proofs.Words.{length-elementOf, from-within, from-found, from-before, from-unique}

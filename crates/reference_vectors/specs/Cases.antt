@@ -16,7 +16,6 @@ use Rattle.vectors.specs.Fields.{word32, field, hasField}
 use Rattle.vectors.specs.Answers.{same?, verdictOf}
 use Rattle.case_outputs.specs.Outputs.{output}
 use Rattle.key_cases.specs.KeyCases.{checkAgrees?, keygenAgrees?}
-use Rattle.call_cases.specs.declared.Call.{Call}
 use Rattle.call_cases.specs.CallCases.{sizeField, callAgrees?}
 use Rattle.reference_vectors.specs.declared.Kind.{Kind}
 use Rattle.reference_vectors.specs.declared.Kind.the-variants.{CheckSecretKey, Keygen, Writing, Noise, Desk}

@@ -17,7 +17,7 @@ use records::THIRD;
 ghost use mathlib.Core.Path.{_≡_};
 ghost use lib.ListN.{length};
 ghost use Rattle.answers.specs.declared.EncapsulationRecord.the-variants as Kind;
-ghost use Rattle.records.specs.Layout.{sealedEntryMark, sealedEntryLength, encapsulationLength};
+ghost use Rattle.records.specs.Layout.{sealedEntryLength, encapsulationLength};
 ghost use Rattle.records.specs.Records.{c1Word, c2Word, firstOf, secondOf, bodyPart, tagPart, sealedEntryAnswer, sealedEntryBytes};
 ghost use Rattle.records.specs.Records.{c1Of, c2Of, encapsulationAnswer, encapsulationBytes};
 ghost use Rattle.records.specs.Read.{placesAnswer, frontOf};

@@ -1,4 +1,4 @@
-use mathlib.Core.Path.{_≡_, ap₂}
+use mathlib.Core.Path.{ap₂}
 use native.Mathlib.Omega.{arith}
 use Rattle.answers.specs.Locations.{pack}
 use Rattle.answers.proofs.CodeLaws.{both-fit}

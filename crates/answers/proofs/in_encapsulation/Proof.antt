@@ -1,9 +1,8 @@
-use mathlib.Core.Path.{_≡_, sym, ap, _∙_}
+use mathlib.Core.Path.{sym, ap, _∙_}
 use Rattle.answers.specs.Locations.{inEncapsulation}
 use borrow.Author.Needs.{needs}
 use Rattle.answers.proofs.in_encapsulation.Statement.{statement}
 use Rattle.answers.proofs.in_encapsulation.Tie as tie
-use Rattle.answers.proofs.in_encapsulation_part.Reads as in-encapsulation-part-reads
 
 enum-known-c : tie.Need-enum-known-c
 enum-known-c c = search needs

@@ -1,4 +1,4 @@
-use mathlib.Core.Path.{_≡_, sym, ap}
+use mathlib.Core.Path.{sym, ap}
 use Rattle.answers.specs.Locations.{inEncapsulationPart}
 use borrow.Author.Needs.{needs}
 use Rattle.answers.proofs.in_encapsulation_part.Statement.{statement}

@@ -1,9 +1,8 @@
-use mathlib.Core.Path.{_≡_, sym, ap, _∙_}
+use mathlib.Core.Path.{sym, ap, _∙_}
 use Rattle.answers.specs.Locations.{inKey}
 use borrow.Author.Needs.{needs}
 use Rattle.answers.proofs.in_key.Statement.{statement}
 use Rattle.answers.proofs.in_key.Tie as tie
-use Rattle.answers.proofs.in_key_part.Reads as in-key-part-reads
 
 enum-known-k : tie.Need-enum-known-k
 enum-known-k c = search needs

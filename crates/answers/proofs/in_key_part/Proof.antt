@@ -1,4 +1,4 @@
-use mathlib.Core.Path.{_≡_, sym, ap}
+use mathlib.Core.Path.{sym, ap}
 use Rattle.answers.specs.Locations.{inKeyPart}
 use borrow.Author.Needs.{needs}
 use Rattle.answers.proofs.in_key_part.Statement.{statement}

@@ -1,4 +1,4 @@
-use mathlib.Core.Path.{refl, ap, _∙_}
+use mathlib.Core.Path.{ap, _∙_}
 use denote.Ref.{now}
 use Rattle.recovery.specs.Outcomes.{answered}
 use Rattle.ntt.proofs.Factors.{forward-size, backward-size}
@@ -54,7 +54,8 @@ returns c =
     let args = key .before .before .before .before .before .before .before .before .before .before .args in
     let (checked, elements) = words .read-encapsulation .ensures in
     let o =
-    outcome-by (key .read-secret-key .result) _ (dummy .read-triple .result) (words .read-encapsulation .result .c1) (words .read-encapsulation .result .c2) (read-sized (now (args .key))) a b s (inverse .reciprocals .ensures) (dummy .read-triple .ensures) (elements .0) (elements .1) in (
+    outcome-by (key .read-secret-key .result) _ (dummy .read-triple .result) (words .read-encapsulation .result .c1) (words .read-encapsulation .result .c2) (read-sized (now (args .key))) a b s
+    (inverse .reciprocals .ensures) (dummy .read-triple .ensures) (elements .0) (elements .1) in (
       c .find-triple .ensures .0
           ∙ decapsulated-by answer checked (codes .check-triple .ensures) o,
       c .find-triple .ensures .1 ∙ ap answered o,

@@ -1,4 +1,4 @@
-use mathlib.Core.Path.{refl, _∙_}
+use mathlib.Core.Path.{_∙_}
 use denote.Ref.{now}
 use Rattle.ntt.proofs.Factors.{forward-size, backward-size}
 use Rattle.opening.proofs.Laws.{read-sized, outcome-by, opened-by, verified-by}
@@ -49,7 +49,8 @@ returns c =
     let args = key .before .before .before .before .before .before .before .before .before .before .args in
     let (checked, (elements, (body, tag))) = read .read-sealed-entry .ensures in
     let o =
-    outcome-by (key .read-secret-key .result) _ (dummy .noise-triple .result) (read .read-sealed-entry .result .c1) (read .read-sealed-entry .result .c2) (read-sized (now (args .key))) a b s (inverse .reciprocals .ensures) (dummy .noise-triple .ensures) (elements .0) (elements .1) in (
+    outcome-by (key .read-secret-key .result) _ (dummy .noise-triple .result) (read .read-sealed-entry .result .c1) (read .read-sealed-entry .result .c2) (read-sized (now (args .key))) a b s
+    (inverse .reciprocals .ensures) (dummy .noise-triple .ensures) (elements .0) (elements .1) in (
       c .recover-entry .ensures .0
           ∙ opened-by answer checked o body tag,
       c .recover-entry .ensures .1 ∙ verified-by o body tag,

@@ -1,4 +1,4 @@
-use mathlib.Core.Path.{ap, ap₂, _∙_}
+use mathlib.Core.Path.{ap, _∙_}
 use Rattle.scheme.specs.declared.Decapsulation.{Decapsulation}
 use Rattle.answers.specs.declared.Refusal.the-variants.{DecapsulationFailure}
 use Rattle.answers.specs.declared.Answer.the-variants.{Done}

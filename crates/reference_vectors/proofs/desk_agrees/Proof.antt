@@ -47,7 +47,8 @@ returns c =
     let opened = numbered .before in
     let answer-is = opened .answer .ensures ∙ ap deskAnswer (opened .before .field .ensures) in
     let none = ap (λ (l : List ℕ). eqb (length l) 0) (words .field2 .ensures) in
-    let same = located .is-located .ensures ∙ ap₂ (λ (l : Location) (w : List ℕ). same? (locationText l) w) (located .before .locate .ensures ∙ ap location answer-is) (words .field2 .ensures) in
+    let place = located .before .locate .ensures ∙ ap location answer-is in
+    let same = located .is-located .ensures ∙ ap₂ (λ (l : Location) (w : List ℕ). same? (locationText l) w) place (words .field2 .ensures) in
     ap₂ _&&_
     (ap₂ _&&_ (ap₂ eqb (numbered .number .ensures ∙ ap number answer-is) (told .number2 .ensures)) (ap₂ _||_ none same))
     (c .line-agrees .ensures)
