@@ -134,6 +134,11 @@ static inline uint32_t polka_index(uint32_t answer) {
     return (answer >> 16) & 0xfff;
 }
 
+/* The place of the record among several in one buffer, bits 28 to 31: 0, since no call of this version is lent several. */
+static inline uint32_t polka_place(uint32_t answer) {
+    return answer >> 28;
+}
+
 /* Makes a key pair. It tries once: under 6 (about one try in sixty) and 8 try again with new bytes.
  * Answers 0; 1, 8, 6, in this order. */
 POLKA_ANSWER

@@ -108,7 +108,7 @@ fn records_and_parts() {
     }
 }
 
-/// A line for each code: its number, record, part and index by the header's functions.
+/// A line for each code: its number, record, part, index and place by the header's functions.
 const FIELDS: &str = r#"
 #include <stdio.h>
 #include <stdlib.h>
@@ -118,8 +118,8 @@ const FIELDS: &str = r#"
 int main(int count, char **codes) {
     for (int i = 1; i < count; i++) {
         uint32_t code = (uint32_t)strtoul(codes[i], NULL, 10);
-        printf("%u %u %u %u\n", (unsigned)polka_number(code), (unsigned)polka_record(code), (unsigned)polka_part(code),
-               (unsigned)polka_index(code));
+        printf("%u %u %u %u %u\n", (unsigned)polka_number(code), (unsigned)polka_record(code), (unsigned)polka_part(code),
+               (unsigned)polka_index(code), (unsigned)polka_place(code));
     }
     return 0;
 }
@@ -143,7 +143,7 @@ fn fields(codes: &[u32]) -> String {
 fn fields_of_a_code() {
     let mut random = Random::new(701);
     let codes: Vec<u32> = (0..=11).chain(located_codes()).chain((0..1000).map(|_| random.next() as u32)).collect();
-    let line = |code: &u32| format!("{} {} {} {}\n", code & 0xff, code >> 12 & 0xf, code >> 8 & 0xf, code >> 16 & 0xfff);
+    let line = |code: &u32| format!("{} {} {} {} {}\n", code & 0xff, code >> 12 & 0xf, code >> 8 & 0xf, code >> 16 & 0xfff, code >> 28);
     assert_eq!(fields(&codes), codes.iter().map(line).collect::<String>());
 }
 

@@ -101,6 +101,12 @@ code-location a h =
     ap₃ : (f : ℕ → ℕ → ℕ → Location) {x x′ y y′ z z′ : ℕ} → x ≡ x′ → y ≡ y′ → z ≡ z′ → f x y z ≡ f x′ y′ z′
     ap₃ f e1 e2 e3 = rw (e1, e2, e3) refl
 
+-- no bit above the index is set
+pub code-within : (a : Answer) → code a < 268435456
+code-within a =
+    let fits = answer-fits a in
+    omega (arith, fits .0, fits .1 .kind-fits, fits .1 .part-fits)
+
 -- the code of an answer that names no word is its number
 plain-code : (a : Answer) → location a ≡ nowhere → code a ≡ number a
 plain-code a e = ap (pack (number a)) e ∙ omega arith

@@ -13,7 +13,7 @@ use Rattle.records.specs.Named.{Named, NamedInTwo}
 use Rattle.public_keys.specs.WellFormed.{PublicNamed}
 use Rattle.calls.specs.Calls.{checkAnswer, keygenAnswer, seededKeygenAnswer, encapsulateAnswer, decapsulateAnswer, sealAnswer, openAnswer}
 use Rattle.calls.specs.Located.{ReadBack, CodesRead}
-use Rattle.answers.proofs.CodeLaws.{code-number, code-location, code-done, names-none}
+use Rattle.answers.proofs.CodeLaws.{code-number, code-location, code-done, code-within, names-none}
 use Rattle.calls.proofs.LocatedExact.{located-exact}
 
 -- ---- the index of a word that is named is below 1,024
@@ -51,6 +51,7 @@ names-nothing a e = read-back a (rw e (omega arith))
 pub codes-read : CodesRead
 codes-read = record {
   zero-done = code-done;
+  within = code-within;
   check = λ k. by-number (checkAnswer k) (λ e. in-two-small (located-exact .check k _ .0 (e, refl) .1)) (λ e. absurd (located-exact .check-never k e));
   keygen = λ stream s e public secret. names-nothing (keygenAnswer stream s e public secret) (located-exact .keygen-never stream s e public secret);
   seeded-keygen = λ seed s e public secret. names-nothing (seededKeygenAnswer seed s e public secret) (located-exact .seeded-keygen-never seed s e public secret);

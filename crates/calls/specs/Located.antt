@@ -2,7 +2,7 @@
 use mathlib.Core.Path.{_≡_}
 use mathlib.Core.Logic.{_↔_}
 use mathlib.Core.List.{List}
-use Prim.Native.Nat.{ℕ}
+use Prim.Native.Nat.{ℕ, _<_}
 use lib.ListN.{length}
 use Rattle.answers.specs.declared.Answer.{Answer}
 use Rattle.answers.specs.declared.Answer.the-variants.{Done}
@@ -68,6 +68,8 @@ ReadBack a = (codeNumber (code a) ≡ number a) × (codeLocation (code a) ≡ lo
 
 pub record CodesRead : Type 0 where
   pub zero-done : (a : Answer) → (code a ≡ 0) ↔ (a ≡ Done)
+  -- bits 28 to 31 are 0
+  pub within : (a : Answer) → code a < 268435456
   pub check : (k : List ℕ) → ReadBack (checkAnswer k)
   pub keygen : (stream s e : List ℕ) (public secret : ℕ) → ReadBack (keygenAnswer stream s e public secret)
   pub seeded-keygen : (seed s e : List ℕ) (public secret : ℕ) → ReadBack (seededKeygenAnswer seed s e public secret)
