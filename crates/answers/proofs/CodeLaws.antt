@@ -96,10 +96,7 @@ code-location a h =
     let fits = answer-fits a in
     let n = number a in
     let l = location a in
-    ap₃ at (packed-kind n l (fits .0) (fits .1)) (packed-part n l (fits .0) (fits .1 .part-fits)) (packed-index n l (fits .0) (fits .1) h)
-  where
-    ap₃ : (f : ℕ → ℕ → ℕ → Location) {x x′ y y′ z z′ : ℕ} → x ≡ x′ → y ≡ y′ → z ≡ z′ → f x y z ≡ f x′ y′ z′
-    ap₃ f e1 e2 e3 = rw (e1, e2, e3) refl
+    rw (packed-kind n l (fits .0) (fits .1), packed-part n l (fits .0) (fits .1 .part-fits), packed-index n l (fits .0) (fits .1) h)
 
 -- no bit above the index is set
 pub code-within : (a : Answer) → code a < 268435456

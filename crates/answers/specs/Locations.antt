@@ -17,7 +17,7 @@ use Rattle.answers.specs.declared.Answer.the-variants.{Done, Refused}
 use Rattle.answers.specs.declared.Location.{Location}
 use Rattle.answers.specs.Answers.{number}
 
--- ---- codes of records and of parts
+-- ---- codes of records and of parts, as include/polka.h has them
 
 abbrev pub publicKey : ℕ
 publicKey = 1
@@ -97,7 +97,8 @@ Names n l a = (number a ≡ n) × (location a ≡ l)
 
 -- ---- the code
 
--- the number in bits 0 to 7, the part in 8 to 11, the record in 12 to 15, the index in 16 to 27
+-- the number in bits 0 to 7, the part in 8 to 11, the record in 12 to 15, the index in 16 to 27; what the calls name has an index below
+-- 1,024
 abbrev pub pack : (number : ℕ) (l : Location) → ℕ
 pack n l = n + 256 * l .part + 4096 * l .kind + 65536 * (l .index % 4096)
 

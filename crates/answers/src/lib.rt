@@ -175,6 +175,7 @@ pub fn locate(a: Answer) -> Location
 
 // ---- both as one number, the answer of an export
 
+// What the calls name has an index below 1,024; the remainder keeps every other within its twelve bits.
 pub fn code(a: Answer) -> u32
     ensures { λ n. ⌜ n ≡ code a ⌝ }
 {

@@ -1,4 +1,5 @@
 -- Laws that the other crates' proofs cite.
+pub mod Equal
 pub mod Maps
 pub mod Tables
 pub mod Zeros

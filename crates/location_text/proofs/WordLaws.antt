@@ -11,7 +11,7 @@ use Rattle.text.specs.Text.{written, decimal}
 use Rattle.text.proofs.Texts.{either-most, Put, put-all}
 use Rattle.text.proofs.Decimals.{length-digits}
 use Rattle.answers.specs.declared.Location.{Location}
-use Rattle.location_text.specs.Words.{publicKeyName, seededKeyName, secretKeyName, sealedEntryName, encapsulationName, recordName, partName, locationText}
+use Rattle.location_text.specs.Words.{publicKeyName, seededKeyName, secretKeyName, sealedEntryName, encapsulationName, recordName, partName, locationWords, locationText}
 
 record-most : (kind : ℕ) → length (recordName kind) ≤ 17
 record-most kind =
@@ -28,25 +28,21 @@ part-most part =
     (either-most (eqb part 4) (99 ∷ 49 ∷ []) _ 2 (omega arith)
     (either-most (eqb part 5) (99 ∷ 50 ∷ []) [] 2 (omega arith) (omega arith))))
 
--- where a word is named
-abbrev pub named : Location → List ℕ
-named l = recordName (l .kind) ++ (32 ∷ []) ++ partName (l .part) ++ (32 ∷ []) ++ decimal (l .index)
-
-named-most : (l : Location) → length (named l) ≤ 41
-named-most l = simp length-append (omega (arith, record-most (l .kind), part-most (l .part), length-digits 20 (l .index)))
+words-most : (l : Location) → length (locationWords l) ≤ 41
+words-most l = simp length-append (omega (arith, record-most (l .kind), part-most (l .part), length-digits 20 (l .index)))
 
 pub no-words : (l : Location) → l .kind ≡ 0 → locationText l ≡ []
 unfolding locationText
 no-words l e = rw e refl
 
-some-words : (l : Location) → ¬ (l .kind ≡ 0) → locationText l ≡ named l
+some-words : (l : Location) → ¬ (l .kind ≡ 0) → locationText l ≡ locationWords l
 unfolding locationText
 some-words l some = rw (ne-eqb (l .kind) 0 some) refl
 
 -- names and digits that were put into a buffer are the words
-pub words-put : (l : Location) {at : ℕ} {bytes : List ℕ} → ¬ (l .kind ≡ 0) → Put (named l) (zeros 41) bytes at
+pub words-put : (l : Location) {at : ℕ} {bytes : List ℕ} → ¬ (l .kind ≡ 0) → Put (locationWords l) (zeros 41) bytes at
     → (bytes ≡ written (locationText l) (zeros 41)) × ((at ≡ length (locationText l)) × (at ≤ 41))
 words-put l some p =
     let words = sym (some-words l some) in
-    let end = put-all p (named-most l) in
-    (p .bytes ∙ ap (λ (w : List ℕ). written w (zeros 41)) words, (end ∙ ap length words, omega (arith, end, named-most l)))
+    let end = put-all p (words-most l) in
+    (p .bytes ∙ ap (λ (w : List ℕ). written w (zeros 41)) words, (end ∙ ap length words, omega (arith, end, words-most l)))

@@ -49,6 +49,10 @@ partName part =
 
 -- ---- the location
 
--- record, part and index with a space between; nothing where no word is named
+-- record, part and index with a space between
+abbrev pub locationWords : Location → List ℕ
+locationWords l = recordName (l .kind) ++ (32 ∷ []) ++ partName (l .part) ++ (32 ∷ []) ++ decimal (l .index)
+
+-- nothing where no word is named
 unfoldable pub locationText : Location → List ℕ
-locationText l = cond (eqb (l .kind) 0) [] (recordName (l .kind) ++ (32 ∷ []) ++ partName (l .part) ++ (32 ∷ []) ++ decimal (l .index))
+locationText l = cond (eqb (l .kind) 0) [] (locationWords l)

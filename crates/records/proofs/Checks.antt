@@ -13,8 +13,7 @@ use Rattle.answers.specs.declared.Answer.{Answer}
 use Rattle.answers.specs.declared.Answer.the-variants.{Done, Refused}
 use Rattle.answers.specs.Answers.{unless, andThen}
 use Rattle.records.specs.Layout.{seededKeyMark}
-use Rattle.records.specs.Records.{firstOf, secondOf, headerAnswer, bWord, wordsAnswer, elementsAnswer, recordAnswer, seededB, seededRecordAnswer}
-use Rattle.records.specs.Read.{placeAnswer}
+use Rattle.records.specs.Records.{firstOf, secondOf, headerAnswer, bWord, placeAnswer, wordsAnswer, elementsAnswer, recordAnswer, seededB, seededRecordAnswer}
 
 module _ (mark : List ℕ) (version : ℕ) (bytes : List ℕ) where
   abbrev judged : Bool → Bool → Answer

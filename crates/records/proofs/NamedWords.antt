@@ -44,13 +44,13 @@ a-word key kind = record { numbered = λ i. refl; located = λ i. kind (A i) }
 pub b-word : (key : KeyPart → KeyRecord) {r : ℕ} → ((p : KeyPart) → inKey (key p) ≡ inKeyPart r p) → WordOf 4 r bPart (bWord key)
 b-word key kind = record { numbered = λ i. refl; located = λ i. kind (B i) }
 
-pub c1-word : (capsule : EncapsulationPart → EncapsulationRecord) {r : ℕ} → ((p : EncapsulationPart) → inEncapsulation (capsule p) ≡ inEncapsulationPart r p)
-    → WordOf 11 r c1Part (c1Word capsule)
-c1-word capsule kind = record { numbered = λ i. refl; located = λ i. kind (C1 i) }
+pub c1-word : (holder : EncapsulationPart → EncapsulationRecord) {r : ℕ} → ((p : EncapsulationPart) → inEncapsulation (holder p) ≡ inEncapsulationPart r p)
+    → WordOf 11 r c1Part (c1Word holder)
+c1-word holder kind = record { numbered = λ i. refl; located = λ i. kind (C1 i) }
 
-pub c2-word : (capsule : EncapsulationPart → EncapsulationRecord) {r : ℕ} → ((p : EncapsulationPart) → inEncapsulation (capsule p) ≡ inEncapsulationPart r p)
-    → WordOf 11 r c2Part (c2Word capsule)
-c2-word capsule kind = record { numbered = λ i. refl; located = λ i. kind (C2 i) }
+pub c2-word : (holder : EncapsulationPart → EncapsulationRecord) {r : ℕ} → ((p : EncapsulationPart) → inEncapsulation (holder p) ≡ inEncapsulationPart r p)
+    → WordOf 11 r c2Part (c2Word holder)
+c2-word holder kind = record { numbered = λ i. refl; located = λ i. kind (C2 i) }
 
 -- ---- one element
 

@@ -1,19 +1,12 @@
 -- What was read of a record: places of words, and elements.
-use Prim.Native.Nat.{ℕ}
-use lib.Dec.{eqb}
-use Rattle.ring.specs.Ring.{n}
 use Rattle.answers.specs.declared.Refusal.{Refusal}
 use Rattle.answers.specs.declared.Answer.{Answer}
-use Rattle.answers.specs.declared.Answer.the-variants.{Done}
 use Rattle.records.specs.declared.Places.{Places}
 use Rattle.records.specs.declared.Elements.{Elements}
-use Rattle.answers.specs.Answers.{unless, andThen}
+use Rattle.answers.specs.Answers.{andThen}
+use Rattle.records.specs.Records.{placeAnswer}
 
--- from the place of an element's first word that is q or more; `refusal` names that word
-abbrev pub placeAnswer : (place : ℕ) (refusal : Refusal) → Answer
-placeAnswer place refusal = unless (eqb place n) refusal Done
-
--- .. of two elements
+-- the words of two elements
 abbrev pub placesAnswer : (at : Places) (one other : Refusal) → Answer
 placesAnswer at one other = andThen (placeAnswer (at .first) one) (placeAnswer (at .second) other)
 

@@ -42,14 +42,18 @@ abbrev pub bWord : (KeyPart → KeyRecord) → ℕ → Refusal
 bWord key i = KeyOutOfRange (key (B i))
 
 abbrev pub c1Word : (EncapsulationPart → EncapsulationRecord) → ℕ → Refusal
-c1Word capsule i = EncapsulationOutOfRange (capsule (C1 i))
+c1Word encapsulation i = EncapsulationOutOfRange (encapsulation (C1 i))
 
 abbrev pub c2Word : (EncapsulationPart → EncapsulationRecord) → ℕ → Refusal
-c2Word capsule i = EncapsulationOutOfRange (capsule (C2 i))
+c2Word encapsulation i = EncapsulationOutOfRange (encapsulation (C2 i))
 
--- an element's first word that is q or more; `word` names word i
+-- from the place of an element's first word that is q or more; `refusal` names that word
+abbrev pub placeAnswer : (place : ℕ) (refusal : Refusal) → Answer
+placeAnswer place refusal = unless (eqb place n) refusal Done
+
+-- by its words; `word` names word i
 unfoldable pub wordsAnswer : (word : ℕ → Refusal) (words : List ℕ) → Answer
-wordsAnswer word words = unless (eqb (firstUnreduced words) n) (word (firstUnreduced words)) Done
+wordsAnswer word words = placeAnswer (firstUnreduced words) (word (firstUnreduced words))
 
 -- .. of two elements, the first before the second
 unfoldable pub elementsAnswer : (one other : ℕ → Refusal) (first second : List ℕ) → Answer

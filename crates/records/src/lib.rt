@@ -16,8 +16,8 @@ ghost use Prim.Native.Nat.{_≤_};
 ghost use lib.ListN.{length, drop};
 ghost use Rattle.encoding.specs.Words.{firstUnreduced};
 ghost use Rattle.records.specs.Layout.{publicKeyLength, secretKeyLength, thirdPlace};
-ghost use Rattle.records.specs.Records.{headerAnswer, codesAnswer, firstOf, secondOf, recordBytes, publicKeyBytes, secretKeyBytes};
-ghost use Rattle.records.specs.Read.{placeAnswer, placesAnswer, frontOf};
+ghost use Rattle.records.specs.Records.{headerAnswer, placeAnswer, codesAnswer, firstOf, secondOf, recordBytes, publicKeyBytes, secretKeyBytes};
+ghost use Rattle.records.specs.Read.{placesAnswer, frontOf};
 
 // ---- layout: marks, places and lengths
 

@@ -15,8 +15,7 @@ ghost use Rattle.encoding.specs.Words.{firstUnreduced};
 ghost use Rattle.answers.specs.declared.KeyRecord.the-variants.{SeededPublicKey};
 ghost use Rattle.answers.specs.Answers.{andThen};
 ghost use Rattle.records.specs.Layout.{seededKeyMark, seedLength, seededKeyLength};
-ghost use Rattle.records.specs.Records.{headerAnswer, bWord, seededB, seededKeyBytes};
-ghost use Rattle.records.specs.Read.{placeAnswer};
+ghost use Rattle.records.specs.Records.{headerAnswer, bWord, placeAnswer, seededB, seededKeyBytes};
 
 // What mark and version are answered by, b, and the place of its first word that is q or more. The seed stays where it is lent.
 pub struct SeededKey {

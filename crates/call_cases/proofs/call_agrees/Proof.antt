@@ -6,7 +6,7 @@ use denote.Ref.{now}
 use Rattle.vectors.specs.Fields.{word32, field}
 use Rattle.case_outputs.specs.Outputs.{answerAgrees?}
 use Rattle.call_cases.specs.CallCases.{callAnswer, callOut, outAfter, callAgrees?}
-use Rattle.case_outputs.proofs.Outputs.{ap₄, ap₅}
+use Rattle.lists.proofs.Equal.{ap₄, ap₅}
 use borrow.Author.Needs.{needs}
 use Rattle.call_cases.proofs.call_agrees.Statement.{statement}
 use Rattle.call_cases.proofs.call_agrees.Tie as tie

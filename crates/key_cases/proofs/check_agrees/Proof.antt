@@ -1,7 +1,7 @@
 use mathlib.Core.Path.{ap, _∙_}
 use Rattle.calls.specs.Calls.{checkAnswer}
 use Rattle.case_outputs.specs.Outputs.{answerTold?}
-use Rattle.case_outputs.proofs.Outputs.{ap₃}
+use Rattle.lists.proofs.Equal.{ap₃}
 use borrow.Author.Needs.{needs}
 use Rattle.key_cases.proofs.check_agrees.Statement.{statement}
 use Rattle.key_cases.proofs.check_agrees.Tie as tie

@@ -3,7 +3,7 @@ use mathlib.Core.List.{List}
 use Prim.Native.Nat.{ℕ}
 use lib.ListN.{length}
 use Rattle.key_cases.specs.KeyCases.{generationAnswer, generationPublic, generationSecret, keysAgree?, publicAfter, secretAfter, keygenAgrees?}
-use Rattle.case_outputs.proofs.Outputs.{ap₄, ap₅}
+use Rattle.lists.proofs.Equal.{ap₄, ap₅}
 use borrow.Author.Needs.{needs}
 use Rattle.key_cases.proofs.keygen_agrees.Statement.{statement}
 use Rattle.key_cases.proofs.keygen_agrees.Tie as tie

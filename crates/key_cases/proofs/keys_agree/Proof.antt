@@ -1,7 +1,7 @@
 use mathlib.Core.Path.{refl, ap₂, _∙_}
 use mathlib.Core.Bool.{_&&_}
 use Rattle.case_outputs.specs.Outputs.{answerAgrees?}
-use Rattle.case_outputs.proofs.Outputs.{ap₅}
+use Rattle.lists.proofs.Equal.{ap₅}
 use borrow.Author.Needs.{needs}
 use Rattle.key_cases.proofs.keys_agree.Statement.{statement}
 use Rattle.key_cases.proofs.keys_agree.Tie as tie

@@ -10,7 +10,7 @@ use Rattle.answers.specs.declared.Answer.the-variants.{Done}
 use Rattle.answers.specs.Answers.{unless, andThen}
 use Rattle.keys.specs.Keys.{keygenB, generatedAnswer}
 use Rattle.ntt.proofs.Factors.{forward-size, backward-size}
-use Rattle.keys.proofs.Equal.{ap-three}
+use Rattle.lists.proofs.Equal.{ap₃}
 use borrow.Author.Needs.{needs}
 use Rattle.keys.proofs.generate.Statement.{statement}
 use Rattle.keys.proofs.generate.Tie as tie
@@ -56,7 +56,7 @@ returns c =
     let read = noise .before .before .before .before .before in
     let a = read .uniform .ensures .1 in
     let s = noise .before .ternary .ensures in
-    let b = made .generate .ensures .0 ∙ ap-three keyElement a s (noise .ternary2 .ensures) in
+    let b = made .generate .ensures .0 ∙ ap₃ keyElement a s (noise .ternary2 .ensures) in
     let enough = noise .before .before .before .unless .ensures ∙ ap (λ (i : ℕ). unless (eqb i 1024) StreamExhausted Done) (read .uniform .ensures .0) in
     let invertible = c .before .before .unless2 .ensures
     ∙ ap (λ (x : Bool). unless x NotInvertible Done) (made .generate .ensures .1 ∙ ap (λ (x : List ℕ). decide (invertible? x)) (sym (made .generate .ensures .0) ∙ b)) in

@@ -8,7 +8,7 @@ use Rattle.ntt.specs.Spectrum.{spectrumOf}
 use Rattle.scheme.specs.Answers.{keyCheck}
 use Rattle.answers.specs.Answers.{andThen}
 use Rattle.keys.specs.Keys.{verdictAnswer, secretAnswer}
-use Rattle.keys.proofs.Equal.{ap-three}
+use Rattle.lists.proofs.Equal.{ap₃}
 use borrow.Author.Needs.{needs}
 use Rattle.keys.proofs.read_secret_key.Statement.{statement}
 use Rattle.keys.proofs.read_secret_key.Tie as tie
@@ -66,7 +66,7 @@ returns c =
     let front = front-checked secretKeyMark 1 (aWord SecretKey) (bWord SecretKey) (now (checked .before .before .before .before .before .args .bytes)) header places (checked .front-answer .ensures) in
     let s = decoded .decode-ternary .ensures in
     let key = made .check-key .ensures in
-    let check = key .0 ∙ ap-three keyCheck a b s in (
+    let check = key .0 ∙ ap₃ keyCheck a b s in (
       c .and-then2 .ensures
           ∙ ap₂ andThen front
           (c .before .and-then .ensures ∙ ap₂ andThen (decoded .before .before .check-codes .ensures) (verdict .verdict-answer .ensures ∙ ap verdictAnswer check)),
