@@ -2,12 +2,11 @@
 use mathlib.Core.Path.{_≡_, refl, sym, ap}
 use mathlib.Core.Bool.{Bool, true, false, true≢false, false≢true}
 use mathlib.Core.Logic.{_↔_, _⊎_, inl, inr, ⊎-elim}
-use mathlib.Core.List.{List}
 use Prim.Native.Nat.{ℕ, _<_}
 use native.Mathlib.Omega.{arith}
 use Rattle.answers.specs.declared.Refusal.{Refusal}
 use Rattle.answers.specs.declared.Refusal.the-variants.{WrongLength, WrongMark, WrongVersion, KeyOutOfRange, InvalidCode}
-use Rattle.answers.specs.declared.Refusal.the-variants.{NotInvertible, KeyMismatch, StreamExhausted, DecapsulationFailure, TagMismatch, EncapsulationOutOfRange}
+use Rattle.answers.specs.declared.Refusal.the-variants.{NotInvertible, KeyMismatch, StreamExhausted, DecapsulationFailure, TagMismatch, EncapsulationOutOfRange, WrongCount}
 use Rattle.answers.specs.declared.Answer.{Answer}
 use Rattle.answers.specs.declared.Answer.the-variants.{Done, Refused}
 use Rattle.answers.specs.declared.Location.{Location}
@@ -28,6 +27,7 @@ refusal-positive StreamExhausted = omega arith
 refusal-positive DecapsulationFailure = omega arith
 refusal-positive TagMismatch = omega arith
 refusal-positive (EncapsulationOutOfRange c) = omega arith
+refusal-positive WrongCount = omega arith
 
 refusal-not-zero : (r : Refusal) → ¬ (refusalNumber r ≡ 0)
 refusal-not-zero r e = omega (arith, refusal-positive r, e)
@@ -125,10 +125,10 @@ names-either (Refused r) b some = (λ e. inl e, ⊎-elim (λ e. e) (λ (p, e). a
 
 -- ---- outputs
 
-pub on-done : {a : Answer} (new old : List ℕ) → a ≡ Done → onDone a new old ≡ new
+pub on-done : {A : Type 0} {a : Answer} (new old : A) → a ≡ Done → onDone a new old ≡ new
 on-done new old e = rw e
 
--- under any other number no byte has changed
-pub on-refusal : (a : Answer) (new old : List ℕ) → ¬ (number a ≡ 0) → onDone a new old ≡ old
+-- under any other number nothing has changed
+pub on-refusal : {A : Type 0} (a : Answer) (new old : A) → ¬ (number a ≡ 0) → onDone a new old ≡ old
 on-refusal Done new old other = absurd (other refl)
 on-refusal (Refused r) new old other = refl

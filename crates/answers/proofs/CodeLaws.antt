@@ -13,7 +13,7 @@ use Rattle.answers.specs.declared.EncapsulationRecord.{EncapsulationReco
 use Rattle.answers.specs.declared.EncapsulationRecord.the-variants.{SealedEntry, Encapsulation}
 use Rattle.answers.specs.declared.Refusal.{Refusal}
 use Rattle.answers.specs.declared.Refusal.the-variants.{WrongLength, WrongMark, WrongVersion, KeyOutOfRange, InvalidCode}
-use Rattle.answers.specs.declared.Refusal.the-variants.{NotInvertible, KeyMismatch, StreamExhausted, DecapsulationFailure, TagMismatch, EncapsulationOutOfRange}
+use Rattle.answers.specs.declared.Refusal.the-variants.{NotInvertible, KeyMismatch, StreamExhausted, DecapsulationFailure, TagMismatch, EncapsulationOutOfRange, WrongCount}
 use Rattle.answers.specs.declared.Answer.{Answer}
 use Rattle.answers.specs.declared.Answer.the-variants.{Done, Refused}
 use Rattle.answers.specs.declared.Location.{Location}
@@ -65,6 +65,7 @@ refusal-fits StreamExhausted = (omega arith, nowhere-fits)
 refusal-fits DecapsulationFailure = (omega arith, nowhere-fits)
 refusal-fits TagMismatch = (omega arith, nowhere-fits)
 refusal-fits (EncapsulationOutOfRange c) = (omega arith, encapsulation-fits c)
+refusal-fits WrongCount = (omega arith, nowhere-fits)
 
 pub answer-fits : (a : Answer) → (number a < 256) × Fits (location a)
 answer-fits Done = (omega arith, nowhere-fits)
@@ -131,6 +132,7 @@ names-none (Refused r) no-key no-encapsulation = of r no-key no-encapsulation
     of DecapsulationFailure no-key no-encapsulation = refl
     of TagMismatch no-key no-encapsulation = refl
     of (EncapsulationOutOfRange c) no-key no-encapsulation = absurd (no-encapsulation refl)
+    of WrongCount no-key no-encapsulation = refl
 
 -- the code of any other answer is its number
 pub code-is-number : (a : Answer) → Never 4 a → Never 11 a → code a ≡ number a

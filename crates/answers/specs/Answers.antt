@@ -1,10 +1,9 @@
--- What a call answers, and its number: document 01's, and document 02's (No. 3).
+-- What a call answers, and its number: document 01's, and document 02's (No. 3 and 4).
 use mathlib.Core.Bool.{Bool, true, false}
-use mathlib.Core.List.{List}
 use Prim.Native.Nat.{ℕ}
 use Rattle.answers.specs.declared.Refusal.{Refusal}
 use Rattle.answers.specs.declared.Refusal.the-variants.{WrongLength, WrongMark, WrongVersion, KeyOutOfRange, InvalidCode, NotInvertible, KeyMismatch}
-use Rattle.answers.specs.declared.Refusal.the-variants.{StreamExhausted, DecapsulationFailure, TagMismatch, EncapsulationOutOfRange}
+use Rattle.answers.specs.declared.Refusal.the-variants.{StreamExhausted, DecapsulationFailure, TagMismatch, EncapsulationOutOfRange, WrongCount}
 use Rattle.answers.specs.declared.Answer.{Answer}
 use Rattle.answers.specs.declared.Answer.the-variants.{Done, Refused}
 
@@ -32,6 +31,8 @@ refusalNumber DecapsulationFailure = 9
 refusalNumber TagMismatch = 10
 -- off the ring: of an encapsulation or a sealed entry
 refusalNumber (EncapsulationOutOfRange c) = 11
+-- a count of entries that is not 1 to 255 (document 02, No. 4)
+refusalNumber WrongCount = 12
 
 abbrev pub number : Answer → ℕ
 number Done = 0
@@ -47,7 +48,7 @@ abbrev pub andThen : Answer → Answer → Answer
 andThen Done a = a
 andThen (Refused r) a = Refused r
 
--- what a lent output holds afterwards: the new bytes under Done, and otherwise what it held
-abbrev pub onDone : (answer : Answer) (new old : List ℕ) → List ℕ
+-- what a lent output holds afterwards, bytes or a number: what is new under Done, and otherwise what it held
+abbrev pub onDone : {A : Type 0} (answer : Answer) (new old : A) → A
 onDone Done new old = new
 onDone (Refused r) new old = old

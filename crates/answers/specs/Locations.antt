@@ -11,7 +11,7 @@ use Rattle.answers.specs.declared.EncapsulationRecord.{EncapsulationReco
 use Rattle.answers.specs.declared.EncapsulationRecord.the-variants.{SealedEntry, Encapsulation}
 use Rattle.answers.specs.declared.Refusal.{Refusal}
 use Rattle.answers.specs.declared.Refusal.the-variants.{WrongLength, WrongMark, WrongVersion, KeyOutOfRange, InvalidCode, NotInvertible, KeyMismatch}
-use Rattle.answers.specs.declared.Refusal.the-variants.{StreamExhausted, DecapsulationFailure, TagMismatch, EncapsulationOutOfRange}
+use Rattle.answers.specs.declared.Refusal.the-variants.{StreamExhausted, DecapsulationFailure, TagMismatch, EncapsulationOutOfRange, WrongCount}
 use Rattle.answers.specs.declared.Answer.{Answer}
 use Rattle.answers.specs.declared.Answer.the-variants.{Done, Refused}
 use Rattle.answers.specs.declared.Location.{Location}
@@ -86,6 +86,7 @@ refusalLocation KeyMismatch = nowhere
 refusalLocation StreamExhausted = nowhere
 refusalLocation DecapsulationFailure = nowhere
 refusalLocation TagMismatch = nowhere
+refusalLocation WrongCount = nowhere
 
 abbrev pub location : Answer → Location
 location Done = nowhere

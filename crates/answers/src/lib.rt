@@ -32,7 +32,7 @@ pub enum EncapsulationRecord {
     Encapsulation(EncapsulationPart),
 }
 
-// Why a call refuses: document 01's numbers 1 to 10, and document 02's 11.
+// Why a call refuses: document 01's numbers 1 to 10, and document 02's 11 and 12.
 pub enum Refusal {
     WrongLength,
     WrongMark,
@@ -45,6 +45,7 @@ pub enum Refusal {
     DecapsulationFailure,
     TagMismatch,
     EncapsulationOutOfRange(EncapsulationRecord),
+    WrongCount,
 }
 
 // What a call answers.
@@ -70,6 +71,7 @@ fn refusal_number(r: Refusal) -> u32
         Refusal::DecapsulationFailure => 9,
         Refusal::TagMismatch => 10,
         Refusal::EncapsulationOutOfRange(_) => 11,
+        Refusal::WrongCount => 12,
     }
 }
 

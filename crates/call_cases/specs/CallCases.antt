@@ -8,10 +8,11 @@ use Rattle.shake.specs.Shake.{shake128, shake256}
 use Rattle.answers.specs.declared.Answer.{Answer}
 use Rattle.answers.specs.declared.Answer.the-variants.{Done}
 use Rattle.calls.specs.Calls.{encapsulateAnswer, encapsulateOut, decapsulateAnswer, decapsulateOut, sealAnswer, sealOut, openAnswer, openOut}
+use Rattle.batch_calls.specs.Calls.{sealBatchAnswer, sealBatchOut}
 use Rattle.vectors.specs.Fields.{word32, field}
 use Rattle.case_outputs.specs.Outputs.{answerAgrees?}
 use Rattle.call_cases.specs.declared.Call.{Call}
-use Rattle.call_cases.specs.declared.Call.the-variants.{Encapsulate, Decapsulate, Seal, Open, Shake128, Shake256}
+use Rattle.call_cases.specs.declared.Call.the-variants.{Encapsulate, Decapsulate, Seal, Open, SealBatch, Shake128, Shake256}
 
 -- ---- calls with one output, by their inputs x, y and z, of which a call takes as many as it has
 
@@ -20,6 +21,7 @@ callAnswer Encapsulate x y z size = encapsulateAnswer x y size
 callAnswer Decapsulate x y z size = decapsulateAnswer x y z size
 callAnswer Seal x y z size = sealAnswer x y z size
 callAnswer Open x y z size = openAnswer x y z size
+callAnswer SealBatch x y z size = sealBatchAnswer x y z size
 callAnswer Shake128 x y z size = Done
 callAnswer Shake256 x y z size = Done
 
@@ -28,6 +30,7 @@ callOut Encapsulate x y z out = encapsulateOut x y out
 callOut Decapsulate x y z out = decapsulateOut x y z out
 callOut Seal x y z out = sealOut x y z out
 callOut Open x y z out = openOut x y z out
+callOut SealBatch x y z out = sealBatchOut x y z out
 callOut Shake128 x y z out = shake128 x (length out)
 callOut Shake256 x y z out = shake256 x (length out)
 
@@ -37,6 +40,7 @@ sizeField Encapsulate = 2
 sizeField Decapsulate = 3
 sizeField Seal = 3
 sizeField Open = 3
+sizeField SealBatch = 3
 sizeField Shake128 = 1
 sizeField Shake256 = 1
 

@@ -13,6 +13,7 @@ pub enum Call {
     Decapsulate,
     Seal,
     Open,
+    SealBatch,
     Shake128,
     Shake256,
 }
@@ -26,6 +27,7 @@ fn run(call: Call, x: &[u8], y: &[u8], z: &[u8], out: &mut [u8]) -> Answer
         Call::Decapsulate => opening::decapsulate(x, y, z, out),
         Call::Seal => sealing::seal(x, y, z, out),
         Call::Open => opening::open(x, y, z, out),
+        Call::SealBatch => batch_sealing::seal_batch(x, y, z, out),
         Call::Shake128 => {
             shake::shake128(x, out);
             Answer::Done
@@ -45,6 +47,7 @@ pub fn size_field(call: Call) -> usize
         Call::Decapsulate => 3,
         Call::Seal => 3,
         Call::Open => 3,
+        Call::SealBatch => 3,
         Call::Shake128 => 1,
         Call::Shake256 => 1,
     }

@@ -18,17 +18,17 @@ use Rattle.calls.proofs.LocatedExact.{located-exact}
 
 -- ---- the index of a word that is named is below 1,024
 
-abbrev Small : Location → Type 0
+abbrev pub Small : Location → Type 0
 Small l = l .index < 1024
 
 named-small : {r p : ℕ} {words : List ℕ} {l : Location} → Named r p words l → Small l
 named-small (i, e, first) = rw e (first .within)
 
-in-two-small : {r p p′ : ℕ} {first second : List ℕ} {l : Location} → NamedInTwo r p p′ first second l → Small l
+pub in-two-small : {r p p′ : ℕ} {first second : List ℕ} {l : Location} → NamedInTwo r p p′ first second l → Small l
 in-two-small (inl named) = named-small named
 in-two-small (inr (passed, named)) = named-small named
 
-public-small : (k : List ℕ) {l : Location} → PublicNamed k l → Small l
+pub public-small : (k : List ℕ) {l : Location} → PublicNamed k l → Small l
 public-small k (inl (header, named)) = in-two-small named
 public-small k (inr (header, named)) = named-small named
 
@@ -37,7 +37,7 @@ public-small k (inr (header, named)) = named-small named
 read-back : (a : Answer) → Small (location a) → ReadBack a
 read-back a small = (code-number a, code-location a (omega arith))
 
-by-number : (a : Answer) → (number a ≡ 4 → Small (location a)) → (number a ≡ 11 → Small (location a)) → ReadBack a
+pub by-number : (a : Answer) → (number a ≡ 4 → Small (location a)) → (number a ≡ 11 → Small (location a)) → ReadBack a
 by-number a key encapsulation = read-back a (at (ℕ-discrete (number a) 4) (ℕ-discrete (number a) 11))
   where
     at : Dec (number a ≡ 4) → Dec (number a ≡ 11) → Small (location a)

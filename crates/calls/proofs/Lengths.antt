@@ -22,7 +22,7 @@ pub one-fits : (i i′ : ℕ) → (eqb i i′ ≡ true) ↔ (i ≡ i′)
 one-fits i i′ = (eqb-true i i′, eq-eqb i i′)
 
 -- the first test is any
-three-fit : {F : Type 0} (first : Bool) → (first ≡ true) ↔ F → (j j′ k k′ : ℕ)
+pub three-fit : {F : Type 0} (first : Bool) → (first ≡ true) ↔ F → (j j′ k k′ : ℕ)
     → (first && eqb j j′ && eqb k k′ ≡ true) ↔ (F × (j ≡ j′) × (k ≡ k′))
 three-fit first f j j′ k k′ =
     Iff·trans (and-eq-true-iff (first && eqb j j′) (eqb k k′))

@@ -9,7 +9,9 @@ use lib.ListN.{length}
 use Rattle.answers.specs.declared.Refusal.the-variants.{WrongLength}
 use Rattle.answers.specs.declared.Answer.{Answer}
 use Rattle.answers.specs.declared.Answer.the-variants.{Done}
-use Rattle.answers.specs.Answers.{number, unless}
+use Rattle.answers.specs.declared.Location.{Location}
+use Rattle.answers.specs.Answers.{number, unless, andThen}
+use Rattle.answers.specs.Locations.{Names}
 use Rattle.records.specs.Records.{firstOf, secondOf, bodyPart, tagPart, sealedEntryAnswer, c1Of, c2Of, encapsulationAnswer}
 use Rattle.triples.specs.Triple.{tripleOf}
 use Rattle.seeds.specs.Seeds.{seedStream}
@@ -29,28 +31,35 @@ use Rattle.calls.proofs.Lengths.{one-fits, keygen-fits, seeded-keygen-f
 use Rattle.calls.proofs.WhenDone.{check-done}
 
 -- a key is accepted where its length fits and its checks pass
-accepted : (k : List ℕ) → Accepted k ↔ ((length k ≡ 4357) × (secretAnswer k ≡ Done))
+pub accepted : (k : List ℕ) → Accepted k ↔ ((length k ≡ 4357) × (secretAnswer k ≡ Done))
 accepted k = Iff·trans (number-done (checkAnswer k)) (check-done k)
 
 -- ---- calls that never say a number
 
 -- 1 is another, and what follows never says it
-never-after-lengths : {fit : Bool} {F : Type 0} {n : ℕ} {a : Answer} → 1 < n → (fit ≡ true) ↔ F → Never n a → ¬ (number (unless fit WrongLength a) ≡ n)
+pub never-after-lengths : {fit : Bool} {F : Type 0} {n : ℕ} {a : Answer} → 1 < n → (fit ≡ true) ↔ F → Never n a → ¬ (number (unless fit WrongLength a) ≡ n)
 never-after-lengths {fit} h fits rest = unless-never fit WrongLength (λ e. omega arith) rest .never
 
 -- key generation says 1, 6 and 8 only
-keygen-others : (n : ℕ) → 1 < n → ¬ (6 ≡ n) → ¬ (8 ≡ n) → (stream s e : List ℕ) (public secret : ℕ) → ¬ (number (keygenAnswer stream s e public secret) ≡ n)
+pub keygen-others : (n : ℕ) → 1 < n → ¬ (6 ≡ n) → ¬ (8 ≡ n) → (stream s e : List ℕ) (public secret : ℕ)
+    → ¬ (number (keygenAnswer stream s e public secret) ≡ n)
 unfolding keygenAnswer
 keygen-others n h six eight stream s e public secret =
     never-after-lengths h (keygen-fits stream s e public secret) (generated-never (omega arith) six eight stream s e)
 
-seeded-keygen-others : (n : ℕ) → 1 < n → ¬ (6 ≡ n) → ¬ (8 ≡ n) → (seed s e : List ℕ) (public secret : ℕ)
+pub seeded-keygen-others : (n : ℕ) → 1 < n → ¬ (6 ≡ n) → ¬ (8 ≡ n) → (seed s e : List ℕ) (public secret : ℕ)
     → ¬ (number (seededKeygenAnswer seed s e public secret) ≡ n)
 unfolding seededKeygenAnswer
 seeded-keygen-others n h six eight seed s e public secret =
     never-after-lengths h (seeded-keygen-fits seed s e public secret) (generated-never (omega arith) six eight (seedStream seed) s e)
 
 -- ---- the words
+
+-- behind the key's checks, which say no 11, those of a record name a word, and none behind them does
+pub names-after-key : (k : List ℕ) (l : Location) (a : Answer) {b : Answer} {N : Type 0} → Never 11 b → Names 11 l a ↔ N
+    → Names 11 l (andThen (secretAnswer k) (andThen a b)) ↔ ((secretAnswer k ≡ Done) × N)
+names-after-key k l a rest named =
+    Iff·trans (then-names _ (secret-never (omega arith) k)) (Iff·and Iff·rfl (Iff·trans (names-first a (omega arith) rest) named))
 
 pub located-exact : LocatedExact
 unfolding checkAnswer encapsulateAnswer decapsulateAnswer sealAnswer openAnswer
@@ -90,24 +99,19 @@ located-exact = record {
   of-encapsulation = λ k c d room l.
       Iff·trans
       (names-after-lengths 11 l _ (omega arith) (decapsulate-fits k c d room)
-      (Iff·trans (then-names _ (secret-never (omega arith) k))
-      (Iff·and Iff·rfl
-      (Iff·trans
-      (names-first (encapsulationAnswer c) (omega arith)
-      (behind-words-never (omega arith) (λ e. omega arith) (λ e. omega arith) d (outcome (elementsOf k) (tripleOf d) (c1Of c) (c2Of c))))
-      (encapsulation-named c l))))) (
+      (names-after-key k l (encapsulationAnswer c)
+      (behind-words-never (omega arith) (λ e. omega arith) (λ e. omega arith) d (outcome (elementsOf k) (tripleOf d) (c1Of c) (c2Of c)))
+      (encapsulation-named c l))) (
         λ ((size, h1, h2, h3), (key, named)). (accepted k .1 (size, key), h1, h2, h3, named),
         λ (key, h1, h2, h3, named). let (size, checked) = accepted k .0 key in ((size, h1, h2, h3), (checked, named)),
       );
   of-sealed-entry = λ k e noise room l.
       Iff·trans
       (names-after-lengths 11 l _ (omega arith) (open-fits k e noise room)
-      (Iff·trans (then-names _ (secret-never (omega arith) k))
-      (Iff·and Iff·rfl
-      (Iff·trans
-      (names-first (sealedEntryAnswer e) (omega arith)
-      (opened-never (omega arith) (λ e. omega arith) (λ e. omega arith) (outcome (elementsOf k) (noiseTriple noise) (firstOf e) (secondOf e)) (bodyPart e) (tagPart e)))
-      (sealed-entry-named e l))))) (
+      (names-after-key k l (sealedEntryAnswer e)
+      (opened-never (omega arith) (λ e. omega arith) (λ e. omega arith) (outcome (elementsOf k) (noiseTriple noise) (firstOf e) (secondOf e))
+      (bodyPart e) (tagPart e))
+      (sealed-entry-named e l))) (
         λ ((size, h1, h2, h3), (key, (mark, version, named))). (accepted k .1 (size, key), (h1, mark, version), h2, h3, named),
         λ (key, (h1, mark, version), h2, h3, named). let (size, checked) = accepted k .0 key in ((size, h1, h2, h3), (checked, (mark, version, named))),
       );

@@ -20,7 +20,7 @@ use Rattle.records.specs.Records.{firstOf, secondOf, bodyPart, tagPart}
 use Rattle.keys.specs.Keys.{KeyElements, elementsOf, tripleNoiseLength, noiseTriple}
 use Rattle.calls.specs.Calls.{outcome, openedAnswer, openedEntry, openAnswer, openOut}
 use Rattle.records.specs.WellFormed.{WellFormedEntry}
-use Rattle.calls.specs.Promises.{Accepted, Ternaries, Opened, OpenExact}
+use Rattle.calls.specs.Promises.{Accepted, Ternaries, OpenedTo, Opened, OpenExact}
 use Rattle.answers.proofs.AnswerLaws.{unless-passed, then-passed, on-done, on-refusal}
 use Rattle.answers.proofs.CodeLaws.{code-is-number}
 use Rattle.records.proofs.RecordLaws.{sealed-entry-done}
@@ -31,32 +31,42 @@ use Rattle.calls.proofs.Outcomes.{noise-ternary, Sound, accepted-sound,
 
 -- ---- on elements: what the outcome says and writes
 
-module _ (key : KeyElements) (c1 c2 body tag before : List ℕ) where
+-- 9 and 10 name no word, so the code is the number
+pub opened-plain : (o : Outcome) (blocks tag : List ℕ) → code (openedAnswer o blocks tag) ≡ number (openedAnswer o blocks tag)
+opened-plain o blocks tag =
+    code-is-number (openedAnswer o blocks tag) (opened-never (omega arith) (λ e. omega arith) (λ e. omega arith) o blocks tag)
+    (opened-never (omega arith) (λ e. omega arith) (λ e. omega arith) o blocks tag)
+
+-- the tag is that of `blocks`, and the output holds what `put` makes of the entry of a body
+module _ (key : KeyElements) (c1 c2 blocks body tag before : List ℕ) (put : List ℕ → List ℕ) where
   abbrev after : Outcome → List ℕ
-  after o = onDone (openedAnswer o body tag) (openedEntry o body) before
+  after o = onDone (openedAnswer o blocks tag) (put (openedEntry o body)) before
+
+  abbrev shown : Triple → List ℕ
+  shown t = put (entryOf (t .r) (t .e1) (t .e2) body)
 
   -- by the tag, where a triple is found
-  with-right-tag : (t : Triple) (o : Outcome) → o ≡ found t → tag ≡ tagOf (t .r) (t .e1) (t .e2) body
-      → (number (openedAnswer o body tag) ≡ 0) × (after o ≡ entryOf (t .r) (t .e1) (t .e2) body)
+  with-right-tag : (t : Triple) (o : Outcome) → o ≡ found t → tag ≡ tagOf (t .r) (t .e1) (t .e2) blocks
+      → (number (openedAnswer o blocks tag) ≡ 0) × (after o ≡ shown t)
   with-right-tag t o is right =
-      let done : openedAnswer (found t) body tag ≡ Done = right-tag t body tag right in
+      let done : openedAnswer (found t) blocks tag ≡ Done = right-tag t blocks tag right in
       rw is (ap number done, on-done _ before done)
 
-  with-wrong-tag : (t : Triple) (o : Outcome) → o ≡ found t → ¬ (tag ≡ tagOf (t .r) (t .e1) (t .e2) body)
-      → (number (openedAnswer o body tag) ≡ 10) × (after o ≡ before)
+  with-wrong-tag : (t : Triple) (o : Outcome) → o ≡ found t → ¬ (tag ≡ tagOf (t .r) (t .e1) (t .e2) blocks)
+      → (number (openedAnswer o blocks tag) ≡ 10) × (after o ≡ before)
   with-wrong-tag t o is wrong =
-      let ten : number (openedAnswer (found t) body tag) ≡ 10 = wrong-tag t body tag wrong in
-      rw is (ten, on-refusal (openedAnswer (found t) body tag) _ before (λ zero. omega (arith, ten, zero)))
+      let ten : number (openedAnswer (found t) blocks tag) ≡ 10 = wrong-tag t blocks tag wrong in
+      rw is (ten, on-refusal (openedAnswer (found t) blocks tag) _ before (λ zero. omega (arith, ten, zero)))
 
   pub opened : (dummy : Triple) → Sound key → Element c1 → Element c2 → Ternaries dummy
       → let o = outcome key dummy c1 c2 in
-      Opened (key .a) (key .b) c1 c2 body tag before (number (openedAnswer o body tag)) (after o)
+      OpenedTo (key .a) (key .b) c1 c2 blocks tag before shown (number (openedAnswer o blocks tag)) (after o)
   unfolding outcome
   opened dummy sound h1 h2 h = record {
     opens = λ t m. with-right-tag t o (exact .opens t .0 m);
     wrong-tag = λ t m. with-wrong-tag t o (exact .opens t .0 m);
-    answers = Iff·trans (exact .answers) (found-opened o body tag);
-    refuses = Iff·trans (exact .refuses) (failed-opened o body tag);
+    answers = Iff·trans (exact .answers) (found-opened o blocks tag);
+    refuses = Iff·trans (exact .refuses) (failed-opened o blocks tag);
     unique = exact .unique;
   }
     where
@@ -102,18 +112,15 @@ module _ (k e before : List ℕ) (accepted : Accepted k) (we : WellFormedEntry e
       let h1 = we .front .first-words in
       let h2 = we .front .second-words in
       rw (decides noise size, writes noise size) (
-        opened (elementsOf k) (firstOf e) (secondOf e) (bodyPart e) (tagPart e) before (noiseTriple noise) sound h1 h2 (noise-ternary noise),
+        opened (elementsOf k) (firstOf e) (secondOf e) (bodyPart e) (bodyPart e) (tagPart e) before (λ x. x) (noiseTriple noise) sound h1 h2 (noise-ternary noise),
         λ other h.
             let same = outcome-free (elementsOf k) (firstOf e) (secondOf e) (noiseTriple noise) sound h1 h2 (noise-ternary noise) (noiseTriple other) (noise-ternary other) in
             (ap number (decides other h ∙ ap says same), writes other h ∙ ap writing same),
       )
 
-  -- no word is named, so the code is the number
+  -- .. in the call too
   pub plain : (noise : List ℕ) → length noise ≡ tripleNoiseLength → code (openAnswer k e noise (length before)) ≡ number (openAnswer k e noise (length before))
-  plain noise size =
-      let never-4 = opened-never (omega arith) (λ (f : 9 ≡ 4). omega arith) (λ (f : 10 ≡ 4). omega arith) (with-dummy noise) (bodyPart e) (tagPart e) in
-      let never-11 = opened-never (omega arith) (λ (f : 9 ≡ 11). omega arith) (λ (f : 10 ≡ 11). omega arith) (with-dummy noise) (bodyPart e) (tagPart e) in
-      rw (decides noise size) (code-is-number (says (with-dummy noise)) never-4 never-11)
+  plain noise size = rw (decides noise size) (opened-plain (with-dummy noise) (bodyPart e) (tagPart e))
 
 pub open-exact : (k e noise before : List ℕ) → OpenExact k e noise before (number (openAnswer k e noise (length before))) (openOut k e noise before)
 open-exact k e noise before accepted we size room = exactly k e before accepted we room noise size

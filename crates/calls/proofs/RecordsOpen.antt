@@ -44,7 +44,7 @@ module _ {k p : List ℕ} (accepted : Accepted k) (public : PublicOf p k) (t : T
     pub sealed-opens : (number (openAnswer k e dummy (length out)) ≡ 0) × (openOut k e dummy out ≡ entry)
     sealed-opens = (
       by-triple .0,
-      by-triple .1 ∙ ap (entryOf (t .r) (t .e1) (t .e2)) (sealed-body a b t block) ∙ entryOf-bodyOf (t .r) (t .e1) (t .e2) block,
+      by-triple .1 ∙ ap (entryOf (t .r) (t .e1) (t .e2)) (sealed-body a b t block) ∙ entryOf-bodyOf (t .r) (t .e1) (t .e2) entry,
     )
 
   -- ---- an encapsulation

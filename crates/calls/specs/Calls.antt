@@ -118,11 +118,13 @@ sealAnswer k noise entry room =
     unless (publicLength? (length k) && eqb (length noise) tripleNoiseLength && eqb (length entry) blockLength && eqb room sealedEntryLength)
     Refusal.WrongLength (publicAnswer k)
 
--- c1, c2, body and tag, by a triple
+-- an entry protected by a triple, behind c1 and c2
+abbrev pub protectedEntry : (c1 c2 : List ℕ) (t : Triple) (entry : List ℕ) → List ℕ
+protectedEntry c1 c2 t entry =
+    sealedEntryBytes c1 c2 (bodyOf (t .r) (t .e1) (t .e2) entry) (tagOf (t .r) (t .e1) (t .e2) (bodyOf (t .r) (t .e1) (t .e2) entry))
+
 unfoldable pub sealedWith : (a b : List ℕ) (t : Triple) (entry : List ℕ) → List ℕ
-sealedWith a b t entry =
-    sealedEntryBytes (masked a (t .r) (t .e1)) (masked b (t .r) (t .e2)) (bodyOf (t .r) (t .e1) (t .e2) entry)
-    (tagOf (t .r) (t .e1) (t .e2) (bodyOf (t .r) (t .e1) (t .e2) entry))
+sealedWith a b t entry = protectedEntry (masked a (t .r) (t .e1)) (masked b (t .r) (t .e2)) t entry
 
 unfoldable pub sealedBytes : (key noise entry : List ℕ) → List ℕ
 sealedBytes k noise entry = sealedWith (publicA k) (publicB k) (noiseTriple noise) entry
@@ -132,15 +134,15 @@ sealOut k noise entry out = onDone (sealAnswer k noise entry (length out)) (seal
 
 -- ---- open a sealed entry, with a dummy from noise
 
--- 9, then 10
-abbrev pub openedAnswer : (o : Outcome) (body tag : List ℕ) → Answer
-openedAnswer (found t) body tag = unless (genuine? (t .r) (t .e1) (t .e2) body tag) Refusal.TagMismatch Done
-openedAnswer failed body tag = Refused Refusal.DecapsulationFailure
+-- 9, then 10; the tag is that of `blocks`, which are the body of a sealed entry
+abbrev pub openedAnswer : (o : Outcome) (blocks tag : List ℕ) → Answer
+openedAnswer (found t) blocks tag = unless (genuine? (t .r) (t .e1) (t .e2) blocks tag) Refusal.TagMismatch Done
+openedAnswer failed blocks tag = Refused Refusal.DecapsulationFailure
 
 -- written only where a triple was found and the tag is right
 abbrev pub openedEntry : (o : Outcome) (body : List ℕ) → List ℕ
 openedEntry (found t) body = entryOf (t .r) (t .e1) (t .e2) body
-openedEntry failed body = zeros blockLength
+openedEntry failed body = zeros (length body)
 
 unfoldable pub openAnswer : (key sealed noise : List ℕ) (room : ℕ) → Answer
 openAnswer key sealed noise room =

@@ -56,17 +56,20 @@ pub record Decapsulated (a b c1 c2 : List ℕ) (said : ℕ) (after : List ℕ) :
   -- there is one such triple at most
   pub unique : (t u : Triple) → Encapsulates a b c1 c2 t → Encapsulates a b c1 c2 u → t ≡ u
 
--- opening a sealed entry that holds c1, c2, body and tag
-pub record Opened (a b c1 c2 body tag before : List ℕ) (said : ℕ) (after : List ℕ) : Type 0 where
-  -- where the formula turns the ternary triple t into (c1, c2): with the right tag it says 0 and writes body xor keystream,
-  -- with another it says 10; keystream and tag are worked out from t
-  pub opens : (t : Triple) → Encapsulates a b c1 c2 t → tag ≡ tagOf (t .r) (t .e1) (t .e2) body
-      → (said ≡ 0) × (after ≡ entryOf (t .r) (t .e1) (t .e2) body)
-  pub wrong-tag : (t : Triple) → Encapsulates a b c1 c2 t → ¬ (tag ≡ tagOf (t .r) (t .e1) (t .e2) body) → (said ≡ 10) × (after ≡ before)
+-- opening what holds c1, c2 and the tag of `blocks`; `shown t` is what the output holds where the triple t shows it
+pub record OpenedTo (a b c1 c2 blocks tag before : List ℕ) (shown : Triple → List ℕ) (said : ℕ) (after : List ℕ) : Type 0 where
+  -- where the formula turns the ternary triple t into (c1, c2): with the right tag, worked out from t, it says 0 and writes what t shows,
+  -- with another it says 10
+  pub opens : (t : Triple) → Encapsulates a b c1 c2 t → tag ≡ tagOf (t .r) (t .e1) (t .e2) blocks → (said ≡ 0) × (after ≡ shown t)
+  pub wrong-tag : (t : Triple) → Encapsulates a b c1 c2 t → ¬ (tag ≡ tagOf (t .r) (t .e1) (t .e2) blocks) → (said ≡ 10) × (after ≡ before)
   -- it says 0 or 10 exactly when there is such a triple, and 9 exactly when there is none
   pub answers : HasTriple a b c1 c2 ↔ ((said ≡ 0) ⊎ (said ≡ 10))
   pub refuses : ¬ (HasTriple a b c1 c2) ↔ (said ≡ 9)
   pub unique : (t u : Triple) → Encapsulates a b c1 c2 t → Encapsulates a b c1 c2 u → t ≡ u
+
+-- a sealed entry: the tag is that of its body, and t shows body xor keystream, worked out from t
+abbrev pub Opened : (a b c1 c2 body tag before : List ℕ) (said : ℕ) (after : List ℕ) → Type 0
+Opened a b c1 c2 body tag before said after = OpenedTo a b c1 c2 body tag before (λ t. entryOf (t .r) (t .e1) (t .e2) body) said after
 
 -- ---- demand 3 of the calls, over bytes
 

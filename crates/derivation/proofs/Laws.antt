@@ -1,23 +1,49 @@
 -- Sizes of what is derived, and that what is protected is opened.
 use mathlib.Core.Path.{_≡_, refl, sym, ap, ap₂, _∙_}
-use mathlib.Core.Bool.{Bool, true, false}
-use mathlib.Core.List.{List, _∷_}
-use Prim.Native.Nat.{ℕ, _*_, _<_}
+use mathlib.Core.Bool.{Bool, true}
+use mathlib.Core.List.{List, _∷_, _++_}
+use Prim.Native.Nat.{ℕ, suc, _*_, _/_, _<_}
 use native.Mathlib.Omega.{arith}
 use lib.ListN.{length, getD}
-use Rattle.lists.specs.Table.{zeros}
-use Rattle.shake.specs.Shake.{shake256}
 use Rattle.shake.proofs.Output.{length-shake256}
+use Rattle.lists.proofs.ByteLists.{Small}
 use Rattle.gf128.specs.Bytes.{Block, block, sum, product, tag, equal}
-use Rattle.gf128.proofs.FieldLaws.{part-block, sum-block, product-block, sum-twice}
-use Rattle.gf128.proofs.TagLaws.{tag-one}
+use Rattle.gf128.specs.Powers.{power, weighted}
+use Rattle.gf128.proofs.FieldLaws.{part-block, zeros-block, sum-block, length-sum, sum-twice}
+use Rattle.gf128.proofs.TagLaws.{folded-block, tag-one, tag-first-weighted}
 use Rattle.gf128.proofs.Comparison.{equal-iff}
 use Rattle.triples.specs.Triple.{tripleBytes}
-use Rattle.derivation.specs.Derivation.{keyMaterial, key0, key1, key2, keystream, bodyOf, tagOf, genuine?, entryOf, verifiedEntry}
+use Rattle.derivation.specs.Derivation.{keyMaterial, key0, key1, key2, keystream, underKeystream, bodyOf, tagOf, genuine?, entryOf}
 use Rattle.derivation.proofs.HashedBytes.{shake256-byte}
 
+-- ---- the keystream
+
+pub length-keystream : (k0 : List ℕ) (size : ℕ) → length (keystream k0 size) ≡ size
+unfolding keystream
+length-keystream k0 size = length-shake256 (0x02 ∷ k0) size
+
+pub keystream-byte : (k0 : List ℕ) (size k : ℕ) → getD (keystream k0 size) k 0 < 256
+unfolding keystream
+keystream-byte k0 size k = shake256-byte (0x02 ∷ k0) size k
+
+pub length-under : (k0 text : List ℕ) → length (underKeystream k0 text) ≡ length text
+unfolding underKeystream
+length-under k0 text = length-sum (length text) text (keystream k0 (length text)) refl (length-keystream k0 (length text))
+
+pub under-block : (k0 : List ℕ) {text : List ℕ} → Block text → Block (underKeystream k0 text)
+unfolding underKeystream
+under-block k0 {text} h =
+    sum-block h (record { size = length-keystream k0 (length text) ∙ h .size; small = keystream-byte k0 (length text) })
+
+-- what is put under the keystream comes back from under it
+pub under-twice : (k0 text : List ℕ) → underKeystream k0 (underKeystream k0 text) ≡ text
+unfolding underKeystream
+under-twice k0 text =
+    ap (λ (n : ℕ). sum (underKeystream k0 text) (keystream k0 n)) (length-under k0 text)
+    ∙ sum-twice text (keystream k0 (length text)) (sym (length-keystream k0 (length text)))
+
 module _ (r e1 e2 : List ℕ) where
-  -- ---- keys and keystream
+  -- ---- keys
 
   pub length-keyMaterial : length (keyMaterial r e1 e2) ≡ 48
   unfolding keyMaterial
@@ -42,73 +68,63 @@ module _ (r e1 e2 : List ℕ) where
   unfolding key2
   key2-block = key-block 2 (omega arith)
 
-  pub keystream-block : Block (keystream r e1 e2)
-  unfolding keystream
-  keystream-block =
-      let m : List ℕ = 0x02 ∷ key0 r e1 e2 in
-      record { size = length-shake256 m 16; small = shake256-byte m 16 }
-
   -- ---- body and tag
 
   pub bodyOf-block : {entry : List ℕ} → Block entry → Block (bodyOf r e1 e2 entry)
   unfolding bodyOf
-  bodyOf-block h = sum-block h keystream-block
+  bodyOf-block h = under-block (key0 r e1 e2) h
 
-  pub entryOf-block : {body : List ℕ} → Block body → Block (entryOf r e1 e2 body)
+  pub length-bodyOf : (entry : List ℕ) → length (bodyOf r e1 e2 entry) ≡ length entry
+  unfolding bodyOf
+  length-bodyOf entry = length-under (key0 r e1 e2) entry
+
+  pub length-entryOf : (body : List ℕ) → length (entryOf r e1 e2 body) ≡ length body
   unfolding entryOf
-  entryOf-block h = sum-block h keystream-block
+  length-entryOf body = length-under (key0 r e1 e2) body
 
-  pub tagOf-block : (body : List ℕ) → Block (tagOf r e1 e2 body)
+  pub tagOf-block : (blocks : List ℕ) → Block (tagOf r e1 e2 blocks)
+  unfolding tagOf tag
+  tagOf-block blocks = sum-block (folded-block (key1 r e1 e2) (length blocks / 16) blocks zeros-block) key2-block
+
+  -- document 01's tag
+  pub tagOf-one : (body : List ℕ) → length body ≡ 16 → tagOf r e1 e2 body ≡ sum (product (key1 r e1 e2) body) (key2 r e1 e2)
   unfolding tagOf
-  tagOf-block body = sum-block (product-block (key1 r e1 e2) body) key2-block
+  tagOf-one body size = tag-one (key1 r e1 e2) body (key2 r e1 e2) size
+
+  -- of a block b and m blocks behind it: K1^(m + 1) × b + K1^m × B1 + .. + K1 × Bm + K2
+  pub tagOf-first : {b : List ℕ} (s : List ℕ) → Block b → Small s
+      → tagOf r e1 e2 (b ++ s)
+      ≡ sum (sum (product (power (key1 r e1 e2) (suc (length s / 16))) b) (weighted (key1 r e1 e2) (length s / 16) s)) (key2 r e1 e2)
+  unfolding tagOf
+  tagOf-first s hb small = tag-first-weighted s (key2 r e1 e2) key1-block hb small
 
   -- ---- from the keys, as the code works them out
 
-  pub body-by : (entry : List ℕ) {k0 s body : List ℕ} → k0 ≡ key0 r e1 e2 → s ≡ shake256 (0x02 ∷ k0) 16 → body ≡ sum entry s → body ≡ bodyOf r e1 e2 entry
-  unfolding bodyOf keystream
-  body-by entry k s b = b ∙ ap (sum entry) (s ∙ ap (λ (key : List ℕ). shake256 (0x02 ∷ key) 16) k)
+  pub body-by : (entry : List ℕ) {k0 body : List ℕ} → k0 ≡ key0 r e1 e2 → body ≡ underKeystream k0 entry → body ≡ bodyOf r e1 e2 entry
+  unfolding bodyOf
+  body-by entry k b = b ∙ ap (λ (key : List ℕ). underKeystream key entry) k
 
   -- the keystream is added and taken off in one way
-  pub entry-by : (body : List ℕ) {k0 s entry : List ℕ} → k0 ≡ key0 r e1 e2 → s ≡ shake256 (0x02 ∷ k0) 16 → entry ≡ sum body s → entry ≡ entryOf r e1 e2 body
+  pub entry-by : (body : List ℕ) {k0 entry : List ℕ} → k0 ≡ key0 r e1 e2 → entry ≡ underKeystream k0 body → entry ≡ entryOf r e1 e2 body
   unfolding bodyOf entryOf
-  entry-by body k s b = body-by body k s b
+  entry-by body k e = body-by body k e
 
-  -- of one block the fold is K1 × body + K2
-  pub tag-by : (body : List ℕ) → length body ≡ 16 → {k1 k2 t : List ℕ} → k1 ≡ key1 r e1 e2 → k2 ≡ key2 r e1 e2 → t ≡ tag k1 body k2 → t ≡ tagOf r e1 e2 body
+  pub tag-by : (blocks : List ℕ) {k1 k2 t : List ℕ} → k1 ≡ key1 r e1 e2 → k2 ≡ key2 r e1 e2 → t ≡ tag k1 blocks k2 → t ≡ tagOf r e1 e2 blocks
   unfolding tagOf
-  tag-by body size {k1} {k2} p q e = e ∙ tag-one k1 body k2 size ∙ ap₂ (λ (k k′ : List ℕ). sum (product k body) k′) p q
+  tag-by blocks p q e = e ∙ ap₂ (λ (k k′ : List ℕ). tag k blocks k′) p q
 
-  pub genuine-by : (body : List ℕ) → length body ≡ 16 → (t : List ℕ) {k1 k2 expected : List ℕ} {g : Bool} → k1 ≡ key1 r e1 e2 → k2 ≡ key2 r e1 e2 → expected ≡ tag k1 body k2
-      → g ≡ equal t expected → g ≡ genuine? r e1 e2 body t
+  pub genuine-by : (blocks t : List ℕ) {k1 k2 expected : List ℕ} {g : Bool} → k1 ≡ key1 r e1 e2 → k2 ≡ key2 r e1 e2
+      → expected ≡ tag k1 blocks k2 → g ≡ equal t expected → g ≡ genuine? r e1 e2 blocks t
   unfolding genuine?
-  genuine-by body size t p q e g = g ∙ ap (equal t) (tag-by body size p q e)
+  genuine-by blocks t p q e g = g ∙ ap (equal t) (tag-by blocks p q e)
 
   -- ---- opening
 
-  -- the tag is right exactly where it is the tag of the body
-  pub genuine-iff : (body t : List ℕ) → (genuine? r e1 e2 body t ≡ true → t ≡ tagOf r e1 e2 body) × (t ≡ tagOf r e1 e2 body → genuine? r e1 e2 body t ≡ true)
+  -- the tag is right exactly where it is the tag of the blocks
+  pub genuine-iff : (blocks t : List ℕ) → (genuine? r e1 e2 blocks t ≡ true → t ≡ tagOf r e1 e2 blocks) × (t ≡ tagOf r e1 e2 blocks → genuine? r e1 e2 blocks t ≡ true)
   unfolding genuine?
-  genuine-iff body t = equal-iff t (tagOf r e1 e2 body)
+  genuine-iff blocks t = equal-iff t (tagOf r e1 e2 blocks)
 
-  pub entryOf-bodyOf : {entry : List ℕ} → Block entry → entryOf r e1 e2 (bodyOf r e1 e2 entry) ≡ entry
+  pub entryOf-bodyOf : (entry : List ℕ) → entryOf r e1 e2 (bodyOf r e1 e2 entry) ≡ entry
   unfolding entryOf bodyOf
-  entryOf-bodyOf {entry} h = sum-twice entry (keystream r e1 e2) (h .size ∙ sym (keystream-block .size))
-
-  pub verifiedEntry-genuine : (body t : List ℕ) → genuine? r e1 e2 body t ≡ true → verifiedEntry r e1 e2 body t ≡ entryOf r e1 e2 body
-  unfolding verifiedEntry
-  verifiedEntry-genuine body t e = rw e
-
-  pub verifiedEntry-refused : (body t : List ℕ) → genuine? r e1 e2 body t ≡ false → verifiedEntry r e1 e2 body t ≡ zeros 16
-  unfolding verifiedEntry
-  verifiedEntry-refused body t e = rw e
-
-  -- what is protected is genuine, and its entry is shown
-  pub verify-protected : {entry : List ℕ} → Block entry
-      → let body = bodyOf r e1 e2 entry in
-      let t = tagOf r e1 e2 body in
-      (genuine? r e1 e2 body t ≡ true) × (entryOf r e1 e2 body ≡ entry) × (verifiedEntry r e1 e2 body t ≡ entry)
-  verify-protected {entry} h =
-      let body = bodyOf r e1 e2 entry in
-      let t = tagOf r e1 e2 body in
-      let genuine : genuine? r e1 e2 body t ≡ true = genuine-iff body t .1 refl in
-      (genuine, entryOf-bodyOf h, verifiedEntry-genuine body t genuine ∙ entryOf-bodyOf h)
+  entryOf-bodyOf entry = under-twice (key0 r e1 e2) entry

@@ -1,15 +1,15 @@
 // Keys, keystream, body and tag of a triple of ternary polynomials: document 01, "Bytes".
-// Nothing here branches on a secret or indexes by one: the one branch on derived bytes asks whether a whole tag is right.
+// Nothing here branches on a secret or indexes by one.
 use ntt::Element;
 use octets::BLOCK_LENGTH;
 use records::TRIPLE_LENGTH;
 ghost use mathlib.Core.Path.{_≡_};
-ghost use mathlib.Core.List.{_∷_};
-ghost use Prim.Native.Nat.{_<_};
-ghost use Rattle.shake.specs.Shake.{shake256};
+ghost use mathlib.Core.List.{_∷_, _++_};
+ghost use Prim.Native.Nat.{_%_, _<_};
+ghost use lib.ListN.{length};
 ghost use Rattle.gf128.specs.Bytes.{block};
 ghost use Rattle.triples.specs.Triple.{tripleBytes};
-ghost use Rattle.derivation.specs.Derivation.{keyMaterial, key0, key1, key2, bodyOf, tagOf, genuine?, verifiedEntry};
+ghost use Rattle.derivation.specs.Derivation.{keyMaterial, key0, key1, key2, keystream, underKeystream, bodyOf, tagOf, genuine?};
 
 // What is hashed for the keys and for the keystream, and the three keys.
 const KEY_INPUT: usize = 1 + TRIPLE_LENGTH;
@@ -84,67 +84,72 @@ fn keystream_input(k0: [u8; BLOCK_LENGTH]) -> [u8; KEYSTREAM_INPUT]
     input
 }
 
-fn keystream(k0: [u8; BLOCK_LENGTH]) -> [u8; BLOCK_LENGTH]
-    ensures { λ s. ⌜ s ≡ shake256 (0x02 ∷ k0) 16 ⌝ }
+// The keystream, as long as the buffer, squeezed once.
+fn keystream(k0: [u8; BLOCK_LENGTH], out: &mut [u8])
+    ensures { λ _. ⌜ now (out .exit) ≡ keystream k0 (length (now (out .entry))) ⌝ }
 {
     let input = keystream_input(k0);
-    let mut stream = [0u8; BLOCK_LENGTH];
-    shake::shake256(&input, &mut stream);
-    stream
+    shake::shake256(&input, out);
 }
 
-// ---- entries
-
-// What a sealed entry holds of an entry.
-pub struct Protected {
-    pub body: [u8; BLOCK_LENGTH],
-    pub tag: [u8; BLOCK_LENGTH],
+// A text under the keystream of K0, in a buffer of its length: the body of an entry, or the entry of a body.
+pub fn under_keystream(k0: [u8; BLOCK_LENGTH], text: &[u8], out: &mut [u8])
+    requires { ⌜ length (now text) ≡ length (now out) ⌝ }
+    ensures { λ _. ⌜ now (out .exit) ≡ underKeystream k0 (now (text .entry)) ⌝ }
+{
+    keystream(k0, out);
+    gf128::add_to(text, out);
 }
 
-// Whether the tag is right, and the entry; 16 zeros where it is not.
-pub struct Verified {
-    pub genuine: bool,
-    pub entry: [u8; BLOCK_LENGTH],
-}
+// ---- entries; the tag is that of the blocks in `front`, of which a single entry has none, and of the body
 
-// The body and the tag of an entry.
-pub fn protect(r: Element, e1: Element, e2: Element, entry: [u8; BLOCK_LENGTH]) -> Protected
-    ensures { λ p. ⌜ (p .body ≡ bodyOf r e1 e2 entry) × (p .tag ≡ tagOf r e1 e2 (bodyOf r e1 e2 entry)) ⌝ }
+// Writes the body of an entry, and gives the tag.
+pub fn protect(
+    r: Element,
+    e1: Element,
+    e2: Element,
+    front: &[u8],
+    entry: &[u8],
+    body: &mut [u8],
+) -> [u8; BLOCK_LENGTH]
+    requires { ⌜ (length (now front) % 16 ≡ 0) × (length (now entry) ≡ length (now body)) ⌝ }
+    ensures { λ _. ⌜ now (body .exit) ≡ bodyOf r e1 e2 (now (entry .entry)) ⌝ }
+    ensures { λ t. ⌜ t ≡ tagOf r e1 e2 (now (front .entry) ++ bodyOf r e1 e2 (now (entry .entry))) ⌝ }
 {
     let keys = derive_keys(r, e1, e2);
     let k0 = keys.k0;
     let k1 = keys.k1;
     let k2 = keys.k2;
-    let body = gf128::sum(entry, keystream(k0));
-    let tag = gf128::tag(k1, &body, k2);
-    Protected { body, tag }
+    under_keystream(k0, entry, body);
+    gf128::tag(k1, front, body, k2)
 }
 
-// The entry of a body, if the tag is right: that is tested before anything of the entry is worked out.
+// Whether a tag is right, and K0, which shows the entry.
+pub struct Verified {
+    pub genuine: bool,
+    pub k0: [u8; BLOCK_LENGTH],
+}
+
+// Nothing of the entry is worked out here.
 pub fn verify(
     r: Element,
     e1: Element,
     e2: Element,
-    body: [u8; BLOCK_LENGTH],
+    front: &[u8],
+    body: &[u8],
     tag: [u8; BLOCK_LENGTH],
 ) -> Verified
-    ensures { λ v. ⌜ (v .genuine ≡ genuine? r e1 e2 body tag) × (v .entry ≡ verifiedEntry r e1 e2 body tag) ⌝ }
+    requires { ⌜ length (now front) % 16 ≡ 0 ⌝ }
+    ensures { λ v. ⌜ v .genuine ≡ genuine? r e1 e2 (now (front .entry) ++ now (body .entry)) tag ⌝ }
+    ensures { λ v. ⌜ v .k0 ≡ key0 r e1 e2 ⌝ }
 {
     let keys = derive_keys(r, e1, e2);
     let k0 = keys.k0;
     let k1 = keys.k1;
     let k2 = keys.k2;
-    let expected = gf128::tag(k1, &body, k2);
-    let genuine = gf128::equal(tag, expected);
-    if genuine {
-        Verified {
-            genuine,
-            entry: gf128::sum(body, keystream(k0)),
-        }
-    } else {
-        Verified {
-            genuine,
-            entry: [0u8; BLOCK_LENGTH],
-        }
+    let expected = gf128::tag(k1, front, body, k2);
+    Verified {
+        genuine: gf128::equal(tag, expected),
+        k0,
     }
 }

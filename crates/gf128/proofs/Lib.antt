@@ -5,6 +5,7 @@ pub mod NumberLaws
 -- Elements as bytes, and the field's laws on them.
 pub mod Digits
 pub mod FieldLaws
--- The tag, and comparison.
+-- A sum in place, the tag, and comparison.
+pub mod InPlace
 pub mod TagLaws
 pub mod Comparison

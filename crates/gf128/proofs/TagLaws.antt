@@ -2,6 +2,7 @@
 use mathlib.Core.Path.{_≡_, refl, sym, ap, ap₂, _∙_}
 use mathlib.Core.List.{List, _++_}
 use Prim.Native.Nat.{ℕ, zero, suc, _+_, _*_, _/_, _%_, _^_, _≤_, _<_}
+use native.Mathlib.Nat.{add-zero, add-suc}
 use native.Mathlib.Numerals.{add-one}
 use native.Mathlib.Omega.{arith}
 use lib.Bits.{bitXor}
@@ -70,7 +71,27 @@ folded-first k start (suc n) b s h =
     ap (λ (i : ℕ). take 16 (drop i (b ++ s))) at ∙ ap (take 16) (drop-append-add b s (16 * n)) in
     ap₂ (λ (x y : List ℕ). product k (sum x y)) (folded-first k start n b s h) next
 
+-- of two strings, the first of whole blocks: it goes on from where the first ends
+pub folded-behind : (k start : List ℕ) (n m : ℕ) (s rest : List ℕ) → length s ≡ 16 * n
+    → folded k start (n + m) (s ++ rest) ≡ folded k (folded k start n s) m rest
+unfolding folded
+folded-behind k start n zero s rest h = rw (add-zero n) (folded-front k start n s rest (omega arith))
+folded-behind k start n (suc m) s rest h =
+    rw (add-suc n m)
+    (let at : 16 * (n + m) ≡ length s + 16 * m = omega arith in
+    let next : block (n + m) (s ++ rest) ≡ block m rest =
+    ap (λ (i : ℕ). take 16 (drop i (s ++ rest))) at ∙ ap (take 16) (drop-append-add s rest (16 * m)) in
+    ap₂ (λ (x y : List ℕ). product k (sum x y)) (folded-behind k start n m s rest h) next)
+
 -- ---- the tag
+
+-- of two strings, the first of whole blocks
+pub tag-behind : (k1 s rest k2 : List ℕ) → length s % 16 ≡ 0
+    → tag k1 (s ++ rest) k2 ≡ sum (folded k1 (folded k1 (zeros 16) (length s / 16) s) (length rest / 16) rest) k2
+unfolding tag
+tag-behind k1 s rest k2 h =
+    let n : length (s ++ rest) / 16 ≡ length s / 16 + length rest / 16 = omega (arith, length-append s rest) in
+    rw (n, folded-behind k1 (zeros 16) (length s / 16) (length rest / 16) s rest (omega arith))
 
 -- of no block
 pub tag-none : (k1 s k2 : List ℕ) → length s < 16 → length k2 ≡ 16 → tag k1 s k2 ≡ k2
@@ -155,3 +176,13 @@ tag-weighted {k1} s k2 h small =
     (folded-weighted m s h zeros-block small within
     ∙ ap (λ (x : List ℕ). sum x (weighted k1 m s)) (product-zeros (power-block k1 m))
     ∙ sum-zeros 16 (weighted k1 m s) (weighted-block k1 m s small within .size))
+
+-- of a block and the blocks behind it: k1^(m + 1) × b + k1^m × B1 + .. + k1 × Bm + k2
+pub tag-first-weighted : {k1 b : List ℕ} (s k2 : List ℕ) → Block k1 → Block b → Small s
+    → tag k1 (b ++ s) k2 ≡ sum (sum (product (power k1 (suc (length s / 16))) b) (weighted k1 (length s / 16) s)) k2
+tag-first-weighted {k1} {b} s k2 hk hb small =
+    let m : ℕ = length s / 16 in
+    tag-first k1 b s k2 (hb .size)
+    ∙ ap (λ (x : List ℕ). sum x k2)
+    (folded-weighted m s hk (product-block k1 b) small (omega arith)
+    ∙ ap (λ (x : List ℕ). sum x (weighted k1 m s)) (power-more m b hk))

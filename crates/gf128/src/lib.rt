@@ -1,11 +1,10 @@
 // The field of 2^128 elements modulo x^128 + x^7 + x^2 + x + 1, its elements as 16 bytes, and the tag over blocks of 16 bytes. No branch and no
 // index depends on a byte: a bit selects by multiplication, and a comparison looks at every byte.
 ghost use mathlib.Core.Path.{_≡_};
-ghost use mathlib.Core.List.{[], _∷_};
-ghost use Prim.Native.Nat.{_+_, _*_, _/_, _<_, _≤_};
+ghost use mathlib.Core.List.{[], _∷_, _++_};
+ghost use Prim.Native.Nat.{_+_, _*_, _/_, _%_, _<_, _≤_};
 ghost use lib.Bits.{bitXor};
 ghost use lib.ListN.{length};
-ghost use Rattle.lists.specs.Table.{zeros};
 ghost use Rattle.lists.specs.Bits.{bit};
 ghost use Rattle.gf128.specs.Field.{times};
 ghost use Rattle.gf128.specs.Bytes.{number, bytes, sum, product, equal, folded, tag};
@@ -107,11 +106,11 @@ fn mul(a: Element, b: Element) -> Element
     r
 }
 
-// k^m × B1 + .. + k × Bm, over the m whole blocks of a string.
-fn fold(k: Element, blocks: &[u8]) -> Element
-    ensures { λ r. ⌜ value r ≡ number (folded (bytes 16 (value k)) (zeros 16) (length (now (blocks .entry)) / 16) (now (blocks .entry))) ⌝ }
+// From `start`, over the m whole blocks of a string: k^m × start + k^m × B1 + .. + k × Bm.
+fn fold(k: Element, start: Element, blocks: &[u8]) -> Element
+    ensures { λ r. ⌜ value r ≡ number (folded (bytes 16 (value k)) (bytes 16 (value start)) (length (now (blocks .entry)) / 16) (now (blocks .entry))) ⌝ }
 {
-    let mut r = Element { lo: 0, hi: 0 };
+    let mut r = start;
     let m = blocks.len() / 16;
     for i in 0..m {
         let at = 16 * i;
@@ -123,15 +122,15 @@ fn fold(k: Element, blocks: &[u8]) -> Element
 
 // ---- on bytes
 
-// Each byte of a xor that of b: the sum in the field, and body and entry from each other by the keystream.
-pub fn sum(a: [u8; 16], b: [u8; 16]) -> [u8; 16]
-    ensures { λ r. ⌜ r ≡ sum a b ⌝ }
+// Adds a string to a buffer of its length, each byte xor each byte: body and entries come from each other so, by the keystream.
+pub fn add_to(a: &[u8], out: &mut [u8])
+    requires { ⌜ length (now a) ≡ length (now out) ⌝ }
+    ensures { λ _. ⌜ now (out .exit) ≡ sum (now (a .entry)) (now (out .entry)) ⌝ }
 {
-    let mut r = [0u8; 16];
-    for k in 0..16 {
-        r[k] = a[k] ^ b[k];
+    let n = a.len();
+    for k in 0..n {
+        out[k] = a[k] ^ out[k];
     }
-    r
 }
 
 // The product in the field.
@@ -141,11 +140,16 @@ pub fn product(a: [u8; 16], b: [u8; 16]) -> [u8; 16]
     store(mul(load(&a), load(&b)))
 }
 
-// The tag of the whole blocks of 16 bytes: k1^m × B1 + .. + k1 × Bm + k2. Bytes behind the last whole block are not read.
-pub fn tag(k1: [u8; 16], blocks: &[u8], k2: [u8; 16]) -> [u8; 16]
-    ensures { λ r. ⌜ r ≡ tag k1 (now (blocks .entry)) k2 ⌝ }
+// The tag of the whole blocks of two strings, `front` before `blocks`: k1^m × B1 + .. + k1 × Bm + k2. Bytes behind the last whole block are
+// not read.
+pub fn tag(k1: [u8; 16], front: &[u8], blocks: &[u8], k2: [u8; 16]) -> [u8; 16]
+    requires { ⌜ length (now front) % 16 ≡ 0 ⌝ }
+    ensures { λ r. ⌜ r ≡ tag k1 (now (front .entry) ++ now (blocks .entry)) k2 ⌝ }
 {
-    store(add(fold(load(&k1), blocks), load(&k2)))
+    let k = load(&k1);
+    let start = fold(k, Element { lo: 0, hi: 0 }, front);
+    let folded = fold(k, start, blocks);
+    store(add(folded, load(&k2)))
 }
 
 // Whether all 16 bytes agree, in the same steps wherever they differ.

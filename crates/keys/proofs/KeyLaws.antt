@@ -1,7 +1,7 @@
 -- The checks of a secret key and of key generation: when they say Done, when 6, when 8, and which word 4 names.
 use mathlib.Core.Path.{_≡_, refl}
 use mathlib.Core.Bool.{Bool, true, false, true≢false, false≢true}
-use mathlib.Core.Logic.{_↔_, _⊎_, inl, inr, Iff·trans, Iff·and}
+use mathlib.Core.Logic.{_↔_, Iff·trans, Iff·and}
 use mathlib.Core.List.{List}
 use Prim.Native.Nat.{ℕ, _<_}
 use native.Mathlib.Omega.{arith}
@@ -24,8 +24,8 @@ use Rattle.keys.specs.Keys.{verdictAnswer, secretAnswer, keygenB, genera
 use Rattle.records.specs.WellFormed.{WellFormedFront}
 use Rattle.records.specs.Named.{NamedInTwo}
 use Rattle.keys.specs.Keys.{elementsOf, Matches}
-use Rattle.answers.proofs.AnswerLaws.{Never, not-done, then-done, then-never, then-says, then-refuses, names-first}
-use Rattle.records.proofs.RecordLaws.{secret-front-done, codes-done, secret-front-never, codes-never}
+use Rattle.answers.proofs.AnswerLaws.{Never, done-never, not-done, then-done, then-never, then-says, then-refuses, names-first}
+use Rattle.records.proofs.RecordLaws.{secret-front-done, codes-done, OneOrAbove, none-of, above-lower, secret-front-never, codes-never}
 use Rattle.records.proofs.NamedWords.{secret-front-named}
 use Rattle.public_keys.specs.PublicKeys.{streamAnswer}
 use Rattle.public_keys.proofs.PublicLaws.{inverse-done, none-decided, inverse-refused, inverse-never, stream-done, stream-refused, stream-never}
@@ -68,16 +68,11 @@ secret-refused k =
     (Iff·and (codes-done (codesPart k)) (Iff·trans (verdict-refused _ _) (none-decided (secondOf k)))))))
     (λ (w, (codes, none)). (w, codes, none), λ (w, codes, none). (w, (codes, none)))
 
-verdict-never : {k : ℕ} → 7 < k ⊎ ((0 < k) × (k < 6)) → (c : KeyCheck) → Never k (verdictAnswer c)
-verdict-never h c = record { never = λ e. out h c e }
-  where
-    out : {k : ℕ} → 7 < k ⊎ ((0 < k) × (k < 6)) → (c : KeyCheck) → number (verdictAnswer c) ≡ k → ⊥
-    out (inl l) Sound e = omega arith
-    out (inl l) NotInvertible e = omega arith
-    out (inl l) KeyMismatch e = omega arith
-    out (inr (some, l)) Sound e = omega arith
-    out (inr (some, l)) NotInvertible e = omega arith
-    out (inr (some, l)) KeyMismatch e = omega arith
+-- it says 6 and 7 only
+verdict-never : {k : ℕ} → 0 < k → ¬ (6 ≡ k) → ¬ (7 ≡ k) → (c : KeyCheck) → Never k (verdictAnswer c)
+verdict-never some six seven Sound = done-never some
+verdict-never some six seven NotInvertible = record { never = six }
+verdict-never some six seven KeyMismatch = record { never = seven }
 
 -- the word that 4 names
 pub secret-named : (k : List ℕ) (l : Location)
@@ -87,14 +82,17 @@ unfolding secretAnswer
 secret-named k l =
     Iff·trans
     (names-first (secretFrontAnswer k) (omega arith)
-    (then-never (codes-never (omega arith) (λ e. omega arith) (codesPart k)) (verdict-never (inr (omega arith, omega arith)) (keyCheck (firstOf k) (secondOf k) (secretOf k)))))
+    (then-never (codes-never (omega arith) (λ e. omega arith) (codesPart k))
+    (verdict-never (omega arith) (λ e. omega arith) (λ e. omega arith) (keyCheck (firstOf k) (secondOf k) (secretOf k)))))
     (secret-front-named k l)
 
-pub secret-never : {number : ℕ} → 7 < number → (k : List ℕ) → Never number (secretAnswer k)
+-- its checks say 2 to 7 only
+pub secret-never : {number : ℕ} → OneOrAbove 7 number → (k : List ℕ) → Never number (secretAnswer k)
 unfolding secretAnswer
 secret-never h k =
-    then-never (secret-front-never (omega arith) k)
-    (then-never (codes-never (omega arith) (λ e. omega arith) (codesPart k)) (verdict-never (inl h) (keyCheck (firstOf k) (secondOf k) (secretOf k))))
+    then-never (secret-front-never (above-lower (omega arith) h) k)
+    (then-never (codes-never (h .0) (none-of h (omega arith)) (codesPart k))
+    (verdict-never (h .0) (none-of h (omega arith)) (none-of h (omega arith)) (keyCheck (firstOf k) (secondOf k) (secretOf k))))
 
 -- ---- key generation
 

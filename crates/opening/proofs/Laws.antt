@@ -1,10 +1,8 @@
 -- A key that was read, equal parts of an answer, and what is written.
 use mathlib.Core.Path.{_≡_, refl, ap, ap₂, _∙_}
-use mathlib.Core.Bool.{Bool, true, false, cond}
 use mathlib.Core.List.{List}
 use Prim.Native.Nat.{ℕ}
 use lib.ListN.{length}
-use Rattle.lists.specs.Table.{zeros}
 use Rattle.ntt.specs.Spectrum.{spectrumOf, coefficientsOf}
 use Rattle.ring.specs.Ring.{n}
 use Rattle.ring.specs.Invertible.{inverseOf}
@@ -17,16 +15,18 @@ use Rattle.scheme.proofs.Steps.{decapsulation-through}
 use Rattle.encoding.proofs.Words.{length-elementOf}
 use Rattle.encoding.proofs.Codes.{length-ternaryOf}
 use Rattle.triples.specs.Triple.{tripleBytes}
-use Rattle.derivation.specs.Derivation.{genuine?, entryOf, verifiedEntry}
+use Rattle.derivation.specs.Derivation.{underKeystream, entryOf}
 use Rattle.answers.specs.declared.Refusal.{Refusal}
-use Rattle.answers.specs.declared.Refusal.the-variants.{DecapsulationFailure, TagMismatch}
+use Rattle.answers.specs.declared.Refusal.the-variants.{DecapsulationFailure}
 use Rattle.answers.specs.declared.Answer.{Answer}
 use Rattle.answers.specs.declared.Answer.the-variants.{Done, Refused}
-use Rattle.answers.specs.Answers.{unless, andThen, onDone}
+use Rattle.answers.specs.Answers.{andThen, onDone}
+use Rattle.records.specs.Records.{recordAnswer, sealedEntryAnswer}
+use Rattle.sealed_records.specs.Front.{sealedFrontAnswer}
 use Rattle.calls.specs.Calls.{outcome, outcomeAnswer, outcomeBytes, openedAnswer, openedEntry}
 use Rattle.keys.specs.Keys.{KeyElements, elementsOf}
 use Rattle.keys.specs.declared.SecretKey.{SecretKey}
-use Rattle.recovery.specs.Outcomes.{asTriple, answered, outcomeBy, decapsulatedBy, openedBy, verifiedBy}
+use Rattle.recovery.specs.Outcomes.{asTriple, answered, outcomeBy, decapsulatedBy, openedBy, tripleKey0}
 
 -- ---- decapsulation with a key that was read
 
@@ -67,13 +67,14 @@ pub decapsulated-by : {key key′ words words′ codes codes′ : Answer} {o o�
     → decapsulatedBy key words codes o ≡ decapsulatedBy key′ words′ codes′ o′
 decapsulated-by ek ew ec eo = ap₂ andThen ek (ap₂ andThen ew (ap₂ andThen ec (ap outcomeAnswer eo)))
 
-pub opened-by : {key key′ front front′ : Answer} {o o′ : Outcome} {body body′ tag tag′ : List ℕ} → key ≡ key′ → front ≡ front′ → o ≡ o′ → body ≡ body′ → tag ≡ tag′
-    → openedBy key front o body tag ≡ openedBy key′ front′ o′ body′ tag′
-opened-by {o = o} {o′} {body} {body′} {tag} ek ef eo eb et =
-    ap₂ andThen ek (ap₂ andThen ef (ap (λ (x : Outcome). openedAnswer x body tag) eo ∙ ap₂ (openedAnswer o′) eb et))
+pub opened-by : {key key′ front front′ : Answer} {o o′ : Outcome} (blocks : List ℕ) {tag tag′ : List ℕ} → key ≡ key′ → front ≡ front′ → o ≡ o′ → tag ≡ tag′
+    → openedBy key front o blocks tag ≡ openedBy key′ front′ o′ blocks tag′
+opened-by blocks ek ef eo et = ap₂ andThen ek (ap₂ andThen ef (ap₂ (λ (x : Outcome) (y : List ℕ). openedAnswer x blocks y) eo et))
 
-pub verified-by : {o o′ : Outcome} {body body′ tag tag′ : List ℕ} → o ≡ o′ → body ≡ body′ → tag ≡ tag′ → verifiedBy o body tag ≡ verifiedBy o′ body′ tag′
-verified-by {o} {o′} {body} {body′} {tag} eo eb et = ap (λ (x : Outcome). verifiedBy x body tag) eo ∙ ap₂ (verifiedBy o′) eb et
+-- a sealed entry has nothing between header and words
+pub entry-front : (sealed : List ℕ) → sealedFrontAnswer 1 Done sealed ≡ sealedEntryAnswer sealed
+unfolding sealedFrontAnswer recordAnswer
+entry-front sealed = refl
 
 -- ---- what is written
 
@@ -89,15 +90,12 @@ triple-written (Refused r) b c failed old = refl
 triple-written Done (Refused r) c failed old = refl
 triple-written Done Done c failed old = refused-stays c DecapsulationFailure _ _ old
 
-pub entry-written : (a b : Answer) (o : Outcome) (body tag old : List ℕ) → let answer = andThen a (andThen b (openedAnswer o body tag)) in
-    onDone answer (verifiedEntry (answered o .r) (answered o .e1) (answered o .e2) body tag) old ≡ onDone answer (openedEntry o body) old
-unfolding verifiedEntry
-entry-written (Refused r) b o body tag old = refl
-entry-written Done (Refused r) o body tag old = refl
-entry-written Done Done failed body tag old = refl
-entry-written Done Done (found t) body tag old = by (genuine? (t .r) (t .e1) (t .e2) body tag)
-  where
-    by : (g : Bool) → onDone (unless g TagMismatch Done) (cond g (entryOf (t .r) (t .e1) (t .e2) body) (zeros 16)) old
-        ≡ onDone (unless g TagMismatch Done) (entryOf (t .r) (t .e1) (t .e2) body) old
-    by true = refl
-    by false = refl
+-- under Done a triple was found, and K0 is its own
+pub entry-written : {k0 : List ℕ} (a b : Answer) (o : Outcome) (blocks tag body old : List ℕ) → k0 ≡ tripleKey0 (answered o)
+    → let answer = openedBy a b o blocks tag in
+    onDone answer (underKeystream k0 body) old ≡ onDone answer (openedEntry o body) old
+unfolding entryOf
+entry-written (Refused r) b o blocks tag body old e = refl
+entry-written Done (Refused r) o blocks tag body old e = refl
+entry-written Done Done failed blocks tag body old e = refl
+entry-written Done Done (found t) blocks tag body old e = rw e

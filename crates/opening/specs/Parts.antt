@@ -1,9 +1,10 @@
--- What the private functions of src/lib.rt answer, over the bytes of records with the right lengths.
+-- What functions of src/lib.rt answer, over the bytes of records with the right lengths.
 use mathlib.Core.List.{List}
 use Prim.Native.Nat.{ℕ}
 use Rattle.scheme.specs.Scheme.{Outcome}
 use Rattle.answers.specs.declared.Answer.{Answer}
-use Rattle.records.specs.Records.{firstOf, secondOf, bodyPart, tagPart, sealedEntryAnswer, c1Of, c2Of, encapsulationAnswer}
+use Rattle.records.specs.Records.{firstOf, secondOf, c1Of, c2Of, encapsulationAnswer}
+use Rattle.sealed_records.specs.Front.{sealedFrontAnswer}
 use Rattle.triples.specs.Triple.{tripleOf, tripleAnswer}
 use Rattle.keys.specs.Keys.{secretAnswer, elementsOf, noiseTriple}
 use Rattle.calls.specs.Calls.{outcome}
@@ -15,9 +16,10 @@ decapsulatedOutcome k c d = outcome (elementsOf k) (tripleOf d) (c1Of c) (c2Of c
 abbrev pub decapsulatedAnswer : (key encapsulation dummy : List ℕ) → Answer
 decapsulatedAnswer k c d = decapsulatedBy (secretAnswer k) (encapsulationAnswer c) (tripleAnswer d) (decapsulatedOutcome k c d)
 
+-- of a sealed entry or a batch
 abbrev pub openedOutcome : (key sealed noise : List ℕ) → Outcome
 openedOutcome k sealed noise = outcome (elementsOf k) (noiseTriple noise) (firstOf sealed) (secondOf sealed)
 
-abbrev pub entryAnswer : (key sealed noise : List ℕ) → Answer
-entryAnswer k sealed noise =
-    openedBy (secretAnswer k) (sealedEntryAnswer sealed) (openedOutcome k sealed noise) (bodyPart sealed) (tagPart sealed)
+abbrev pub sealedAnswer : (key sealed : List ℕ) (version : ℕ) (between : Answer) (noise blocks tag : List ℕ) → Answer
+sealedAnswer k sealed version between noise blocks tag =
+    openedBy (secretAnswer k) (sealedFrontAnswer version between sealed) (openedOutcome k sealed noise) blocks tag

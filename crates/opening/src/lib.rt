@@ -7,21 +7,25 @@ use octets::BLOCK_LENGTH;
 use records::ENCAPSULATION_LENGTH;
 use records::SEALED_ENTRY_LENGTH;
 use records::SECRET_KEY_LENGTH;
+use records::TAG;
+use records::THIRD;
 use records::TRIPLE_LENGTH;
 use recovery::Decapsulated;
-use recovery::Opened;
+use recovery::Recovered;
 use scheme::Triple;
 ghost use mathlib.Core.Path.{_≡_};
+ghost use mathlib.Core.List.{_++_};
+ghost use Prim.Native.Nat.{_%_, _≤_};
 ghost use lib.ListN.{length};
+ghost use Rattle.derivation.specs.Derivation.{underKeystream};
 ghost use Rattle.answers.specs.Answers.{number, onDone};
-ghost use Rattle.records.specs.Layout.{secretKeyLength, sealedEntryLength, encapsulationLength, tripleLength, blockLength};
-ghost use Rattle.records.specs.Records.{bodyPart, tagPart};
+ghost use Rattle.records.specs.Layout.{thirdPlace, secretKeyLength, encapsulationLength, tripleLength, blockLength};
 ghost use Rattle.triples.specs.Triple.{tripleBytes};
 ghost use Rattle.keys.specs.Keys.{tripleNoiseLength};
-ghost use Rattle.calls.specs.Calls.{decapsulateAnswer, decapsulateOut, openAnswer, openOut};
+ghost use Rattle.calls.specs.Calls.{decapsulateAnswer, decapsulateOut, openedEntry, openAnswer, openOut};
 ghost use Rattle.calls.specs.Promises.{DecapsulateExact, OpenExact};
-ghost use Rattle.recovery.specs.Outcomes.{asTriple, answered, verifiedBy};
-ghost use Rattle.opening.specs.Parts.{decapsulatedOutcome, decapsulatedAnswer, openedOutcome, entryAnswer};
+ghost use Rattle.recovery.specs.Outcomes.{asTriple, answered, tripleKey0};
+ghost use Rattle.opening.specs.Parts.{decapsulatedOutcome, decapsulatedAnswer, openedOutcome, sealedAnswer};
 
 // ---- decapsulate
 
@@ -75,13 +79,23 @@ pub fn decapsulate(key: &[u8], encapsulation: &[u8], dummy: &[u8], out: &mut [u8
     answer
 }
 
-// ---- open
+// ---- what openings of sealed entries and of batches share. `version` is the record's, and `between` what is answered between its header and
+// its words; the tag is that of the blocks in `front`, of which a single entry has none, and of the body
 
-// Of records with the right lengths.
-fn open_records(key: &[u8], sealed: &[u8], noise: &[u8]) -> Opened
-    requires { ⌜ (length (now key) ≡ secretKeyLength) × (length (now sealed) ≡ sealedEntryLength) × (length (now noise) ≡ tripleNoiseLength) ⌝ }
-    ensures { λ o. ⌜ o .answer ≡ entryAnswer (now (key .entry)) (now (sealed .entry)) (now (noise .entry)) ⌝ }
-    ensures { λ o. ⌜ o .entry ≡ verifiedBy (openedOutcome (now (key .entry)) (now (sealed .entry)) (now (noise .entry))) (bodyPart (now (sealed .entry))) (tagPart (now (sealed .entry))) ⌝ }
+// With a key of the right length and a dummy from noise.
+fn recover_sealed(
+    key: &[u8],
+    sealed: &[u8],
+    version: u16,
+    between: Answer,
+    noise: &[u8],
+    front: &[u8],
+    body: &[u8],
+    tag: &[u8],
+) -> Recovered
+    requires { ⌜ (length (now key) ≡ secretKeyLength) × (thirdPlace ≤ length (now sealed)) × (length (now noise) ≡ tripleNoiseLength) × (length (now front) % 16 ≡ 0) × (length (now tag) ≡ blockLength) ⌝ }
+    ensures { λ r. ⌜ r .answer ≡ sealedAnswer (now (key .entry)) (now (sealed .entry)) version between (now (noise .entry)) (now (front .entry) ++ now (body .entry)) (now (tag .entry)) ⌝ }
+    ensures { λ r. ⌜ r .k0 ≡ tripleKey0 (answered (openedOutcome (now (key .entry)) (now (sealed .entry)) (now (noise .entry)))) ⌝ }
 {
     let mut forward = [0u16; FACTORS];
     let mut backward = [0u16; FACTORS];
@@ -90,19 +104,46 @@ fn open_records(key: &[u8], sealed: &[u8], noise: &[u8]) -> Opened
     let k = keys::read_secret_key(key, &forward, &backward);
     let b = k.b;
     let inverse = ring::reciprocals(b);
-    let e = sealed_records::read_sealed_entry(sealed);
+    let c = sealed_records::read_sealed(sealed, version, between);
     let dummy = keys::noise_triple(noise);
-    recovery::recover_entry(k, inverse, e, dummy, &forward, &backward)
+    let t = octets::read_block(tag);
+    recovery::recover(k, inverse, c, dummy, front, body, t, &forward, &backward)
 }
 
-fn write_entry(answer: Answer, entry: [u8; BLOCK_LENGTH], out: &mut [u8])
-    requires { ⌜ length (now out) ≡ blockLength ⌝ }
-    ensures { λ _. ⌜ now (out .exit) ≡ onDone answer entry (now (out .entry)) ⌝ }
+// Shows the entry of a body, in a buffer of its length.
+fn write_entry(answer: Answer, k0: [u8; BLOCK_LENGTH], body: &[u8], out: &mut [u8])
+    requires { ⌜ length (now body) ≡ length (now out) ⌝ }
+    ensures { λ _. ⌜ now (out .exit) ≡ onDone answer (underKeystream k0 (now (body .entry))) (now (out .entry)) ⌝ }
 {
     if let Answer::Done = answer {
-        octets::write_block(entry, out);
+        derivation::under_keystream(k0, body, out);
     }
 }
+
+// Shows the entry once the tag is known.
+pub fn open_sealed(
+    key: &[u8],
+    sealed: &[u8],
+    version: u16,
+    between: Answer,
+    noise: &[u8],
+    front: &[u8],
+    body: &[u8],
+    tag: &[u8],
+    out: &mut [u8],
+) -> Answer
+    requires { ⌜ (length (now key) ≡ secretKeyLength) × (thirdPlace ≤ length (now sealed)) × (length (now noise) ≡ tripleNoiseLength) × (length (now front) % 16 ≡ 0) × (length (now tag) ≡ blockLength) × (length (now body) ≡ length (now out)) ⌝ }
+    ensures { λ a. ⌜ a ≡ sealedAnswer (now (key .entry)) (now (sealed .entry)) version between (now (noise .entry)) (now (front .entry) ++ now (body .entry)) (now (tag .entry)) ⌝ }
+    ensures { λ a. ⌜ now (out .exit) ≡ onDone a (openedEntry (openedOutcome (now (key .entry)) (now (sealed .entry)) (now (noise .entry))) (now (body .entry))) (now (out .entry)) ⌝ }
+{
+    let r = recover_sealed(key, sealed, version, between, noise, front, body, tag);
+    let answer = r.answer;
+    let k0 = r.k0;
+    write_entry(answer, k0, body, out);
+    answer
+}
+
+// ---- open
 
 pub fn open(key: &[u8], sealed: &[u8], noise: &[u8], out: &mut [u8]) -> Answer
     ensures { λ a. ⌜ a ≡ openAnswer (now (key .entry)) (now (sealed .entry)) (now (noise .entry)) (length (now (out .entry))) ⌝ }
@@ -116,9 +157,15 @@ pub fn open(key: &[u8], sealed: &[u8], noise: &[u8], out: &mut [u8]) -> Answer
     if !fits {
         return Answer::Refused(Refusal::WrongLength);
     }
-    let o = open_records(key, sealed, noise);
-    let answer = o.answer;
-    let entry = o.entry;
-    write_entry(answer, entry, out);
-    answer
+    open_sealed(
+        key,
+        sealed,
+        1,
+        Answer::Done,
+        noise,
+        &sealed[0..0],
+        &sealed[THIRD..TAG],
+        &sealed[TAG..SEALED_ENTRY_LENGTH],
+        out,
+    )
 }

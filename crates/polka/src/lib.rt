@@ -1,6 +1,6 @@
 // What a console and a desk link: each public call for C. A slice is a pointer and a length, buffers may have any length, and the answer is
 // a code that holds number and location, 0 where the call is done; under any other every output is as it came. The definitions that the
-// contracts cite stand in crates calls and answers.
+// contracts cite stand in crates calls, batch_calls and answers.
 ghost use mathlib.Core.Path.{_≡_};
 ghost use lib.ListN.{length};
 ghost use Rattle.shake.specs.Shake.{shake128, shake256};
@@ -9,6 +9,8 @@ ghost use Rattle.calls.specs.Calls.{checkAnswer, keygenAnswer, keygenPublic, ke
 ghost use Rattle.calls.specs.Calls.{encapsulateAnswer, encapsulateOut};
 ghost use Rattle.calls.specs.Calls.{decapsulateAnswer, decapsulateOut, sealAnswer, sealOut, openAnswer, openOut};
 ghost use Rattle.calls.specs.Promises.{CheckExact, DecapsulateExact, OpenExact};
+ghost use Rattle.batch_calls.specs.Calls.{sealBatchAnswer, sealBatchOut, openBatchAnswer, openBatchOut, openBatchCount};
+ghost use Rattle.batch_calls.specs.Promises.{OpenBatchExact};
 
 #[no_mangle]
 pub extern "C" fn polka_keygen(
@@ -91,6 +93,35 @@ pub extern "C" fn polka_open(key: &[u8], sealed: &[u8], noise: &[u8], out: &mut 
     ensures { λ n. ⌜ OpenExact (now (key .entry)) (now (sealed .entry)) (now (noise .entry)) (now (out .entry)) n (now (out .exit)) ⌝ }
 {
     let answer = opening::open(key, sealed, noise, out);
+    answers::code(answer)
+}
+
+#[no_mangle]
+pub extern "C" fn polka_seal_batch(key: &[u8], noise: &[u8], blocks: &[u8], out: &mut [u8]) -> u32
+    ensures { λ n. ⌜ n ≡ code (sealBatchAnswer (now (key .entry)) (now (noise .entry)) (now (blocks .entry)) (length (now (out .entry)))) ⌝ }
+    ensures { λ _. ⌜ now (out .exit) ≡ sealBatchOut (now (key .entry)) (now (noise .entry)) (now (blocks .entry)) (now (out .entry)) ⌝ }
+{
+    let answer = batch_sealing::seal_batch(key, noise, blocks, out);
+    answers::code(answer)
+}
+
+// The count of entries is written under 0, as the entries are.
+#[no_mangle]
+pub extern "C" fn polka_open_batch(
+    key: &[u8],
+    batch: &[u8],
+    noise: &[u8],
+    out: &mut [u8],
+    count: &mut u32,
+) -> u32
+    ensures { λ n. ⌜ n ≡ code (openBatchAnswer (now (key .entry)) (now (batch .entry)) (now (noise .entry)) (length (now (out .entry)))) ⌝ }
+    ensures { λ _. ⌜ now (out .exit) ≡ openBatchOut (now (key .entry)) (now (batch .entry)) (now (noise .entry)) (now (out .entry)) ⌝ }
+    ensures { λ _. ⌜ now (count .exit) ≡ openBatchCount (now (key .entry)) (now (batch .entry)) (now (noise .entry)) (length (now (out .entry))) (now (count .entry)) ⌝ }
+    ensures { λ n. ⌜ OpenBatchExact (now (key .entry)) (now (batch .entry)) (now (noise .entry)) (now (out .entry)) (now (count .entry)) n (now (out .exit)) (now (count .exit)) ⌝ }
+{
+    let opened = batch_opening::open_batch(key, batch, noise, out);
+    let answer = opened.answer;
+    batch_opening::write_count(opened, count);
     answers::code(answer)
 }
 

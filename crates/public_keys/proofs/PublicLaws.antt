@@ -24,7 +24,7 @@ use Rattle.records.specs.WellFormed.{WellFormedFront, WellFormedSeededKey}
 use Rattle.public_keys.specs.PublicKeys.{streamAnswer, inverseAnswer, publicLength?, seeded?, publicB, publicRecordAnswer, publicStreamAnswer, publicAnswer}
 use Rattle.public_keys.specs.WellFormed.{SeedFills, PublicHeader, PublicRecord, PublicNamed}
 use Rattle.answers.proofs.AnswerLaws.{Never, done-never, unless-done, unless-never, unless-refuses, then-done, then-never, then-says, then-refuses, names-first}
-use Rattle.records.proofs.RecordLaws.{equal-done, public-front-done, seeded-done, public-front-never, seeded-never}
+use Rattle.records.proofs.RecordLaws.{equal-done, public-front-done, seeded-done, OneOrAbove, none-of, above-lower, public-front-never, seeded-never}
 use Rattle.records.proofs.NamedWords.{public-front-named, seeded-named}
 use Rattle.public_keys.proofs.EitherKind.{seeded-a, seeded-b, seeded-record, seeded-stream, long-a, long-b, long-record, long-stream}
 
@@ -88,7 +88,7 @@ module _ (k : List ℕ) where
   is-long : length k ≡ publicKeyLength → seeded? k ≡ false
   is-long size = ne-eqb (length k) seededKeyLength (λ e. omega arith)
 
-  record-never-either : (number : ℕ) → 4 < number → Never number (publicRecordAnswer k)
+  record-never-either : (number : ℕ) → OneOrAbove 4 number → Never number (publicRecordAnswer k)
   record-never-either number h = by-kind (seeded? k) refl
     where
       by-kind : (b : Bool) → seeded? k ≡ b → Never number (publicRecordAnswer k)
@@ -238,6 +238,8 @@ module _ (k : List ℕ) where
       from (inr ((size, mark, version), named)) =
           (public-length (length k) .1 (inr size), rw (seeded-record k (is-seeded size)) (seeded-named k l .1 (mark, version, named)))
 
-  pub public-never : {number : ℕ} → 8 < number → Never number (publicAnswer k)
+  -- its checks say 2 to 8 only
+  pub public-never : {number : ℕ} → OneOrAbove 8 number → Never number (publicAnswer k)
   unfolding publicAnswer
-  public-never h = then-never (record-never-either _ (omega arith)) (behind-never (omega arith) (λ e. omega arith) (λ e. omega arith))
+  public-never {number} h =
+      then-never (record-never-either number (above-lower (omega arith) h)) (behind-never (h .0) (none-of h (omega arith)) (none-of h (omega arith)))

@@ -104,7 +104,7 @@ pub record-named : {k r p p′ : ℕ} {one other : ℕ → Refusal} → 3 < k �
 unfolding recordAnswer
 record-named h of-one of-other mark version bytes l =
     Iff·trans
-    (Iff·trans (then-names _ (header-never h mark version bytes))
+    (Iff·trans (then-names _ (header-never (omega arith) mark version bytes))
     (Iff·and (header-done mark version bytes)
     (elements-named (omega arith) of-one of-other (firstOf bytes) (secondOf bytes) l (length-elementOf _) (length-elementOf _))))
     (λ ((m, v), named). (m, v, named), λ (m, v, named). ((m, v), named))

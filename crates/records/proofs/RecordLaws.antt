@@ -3,7 +3,7 @@ use mathlib.Core.Path.{_≡_, refl}
 use mathlib.Core.Bool.{Bool, true}
 use mathlib.Core.Logic.{_↔_, Iff·rfl, Iff·trans, Iff·and}
 use mathlib.Core.List.{List}
-use Prim.Native.Nat.{ℕ, _<_}
+use Prim.Native.Nat.{ℕ, _<_, _≤_}
 use native.Mathlib.Omega.{arith}
 use lib.Dec.{eqb}
 use lib.ListN.{length}
@@ -46,7 +46,7 @@ pub codes-done : (bytes : List ℕ) → (codesAnswer bytes ≡ Done) ↔ (firstI
 unfolding codesAnswer
 codes-done bytes = equal-done (firstInvalidCode bytes) 1024 InvalidCode
 
-elements-done : (one other : ℕ → Refusal) (first second : List ℕ) → length first ≡ n → length second ≡ n
+pub elements-done : (one other : ℕ → Refusal) (first second : List ℕ) → length first ≡ n → length second ≡ n
     → (elementsAnswer one other first second ≡ Done) ↔ (Element first × Element second)
 unfolding elementsAnswer
 elements-done one other first second h1 h2 = Iff·trans (then-done _ _) (Iff·and (words-done one first h1) (words-done other second h2))
@@ -85,15 +85,28 @@ encapsulation-done bytes =
 
 -- ---- which numbers these checks never say
 
+-- k is 1 or above m
+abbrev pub OneOrAbove : (m k : ℕ) → Type 0
+OneOrAbove m k = (0 < k) × (1 < k → m < k)
+
+-- .. so it is none of the numbers from 2 to m
+pub none-of : {m k j : ℕ} → OneOrAbove m k → (1 < j) × (j ≤ m) → ¬ (j ≡ k)
+none-of (some, above) (low, high) e = omega (arith, above (omega arith))
+
+-- .. and 1 or above any lower bound
+pub above-lower : {m m′ k : ℕ} → m ≤ m′ → OneOrAbove m′ k → OneOrAbove m k
+above-lower h (some, above) = (some, λ l. omega (arith, above l))
+
 -- a test and nothing behind it
 test-never : {k : ℕ} → 0 < k → (t : Bool) (r : Refusal) → ¬ (refusalNumber r ≡ k) → Never k (unless t r Done)
 test-never some t r other = unless-never t r other (done-never some)
 
-pub header-never : {k : ℕ} → 3 < k → (mark : List ℕ) (version : ℕ) (bytes : List ℕ) → Never k (headerAnswer mark version bytes)
+-- mark and version are refused under 2 and 3
+pub header-never : {k : ℕ} → OneOrAbove 3 k → (mark : List ℕ) (version : ℕ) (bytes : List ℕ) → Never k (headerAnswer mark version bytes)
 unfolding headerAnswer
 header-never h mark version bytes =
-    unless-never (hasMark mark bytes) WrongMark (λ e. omega arith)
-    (test-never (omega arith) (eqb (versionOf bytes) version) WrongVersion (λ e. omega arith))
+    unless-never (hasMark mark bytes) WrongMark (none-of h (omega arith))
+    (test-never (h .0) (eqb (versionOf bytes) version) WrongVersion (none-of h (omega arith)))
 
 pub codes-never : {k : ℕ} → 0 < k → ¬ (5 ≡ k) → (bytes : List ℕ) → Never k (codesAnswer bytes)
 unfolding codesAnswer
@@ -104,36 +117,40 @@ words-never : {k : ℕ} → 0 < k → (word : ℕ → Refusal) (a : List ℕ) �
 unfolding wordsAnswer
 words-never some word a other = test-never some (eqb (firstUnreduced a) n) (word (firstUnreduced a)) (other (firstUnreduced a))
 
-elements-never : {k : ℕ} → 0 < k → (one other : ℕ → Refusal) (first second : List ℕ)
+pub elements-never : {k : ℕ} → 0 < k → (one other : ℕ → Refusal) (first second : List ℕ)
     → ((i : ℕ) → ¬ (refusalNumber (one i) ≡ k)) → ((i : ℕ) → ¬ (refusalNumber (other i) ≡ k)) → Never k (elementsAnswer one other first second)
 unfolding elementsAnswer
 elements-never some one other first second not-one not-other = then-never (words-never some one first not-one) (words-never some other second not-other)
 
-record-never : {k : ℕ} → 3 < k → (mark : List ℕ) (version : ℕ) (one other : ℕ → Refusal) (bytes : List ℕ)
+record-never : {k : ℕ} → OneOrAbove 3 k → (mark : List ℕ) (version : ℕ) (one other : ℕ → Refusal) (bytes : List ℕ)
     → ((i : ℕ) → ¬ (refusalNumber (one i) ≡ k)) → ((i : ℕ) → ¬ (refusalNumber (other i) ≡ k)) → Never k (recordAnswer mark version one other bytes)
 unfolding recordAnswer
 record-never h mark version one other bytes not-one not-other =
-    then-never (header-never h mark version bytes) (elements-never (omega arith) one other (firstOf bytes) (secondOf bytes) not-one not-other)
-
-pub seeded-never : {k : ℕ} → 4 < k → (bytes : List ℕ) → Never k (seededRecordAnswer bytes)
-unfolding seededRecordAnswer
-seeded-never h bytes = then-never (header-never (omega arith) seededKeyMark 1 bytes) (words-never (omega arith) (bWord SeededPublicKey) (seededB bytes) (λ i e. omega arith))
+    then-never (header-never h mark version bytes) (elements-never (h .0) one other (firstOf bytes) (secondOf bytes) not-one not-other)
 
 -- a key's words are refused under 4
-key-record-never : {k : ℕ} → 4 < k → (mark : List ℕ) (version : ℕ) (key : KeyPart → KeyRecord) (bytes : List ℕ)
+pub seeded-never : {k : ℕ} → OneOrAbove 4 k → (bytes : List ℕ) → Never k (seededRecordAnswer bytes)
+unfolding seededRecordAnswer
+seeded-never h bytes =
+    then-never (header-never (above-lower (omega arith) h) seededKeyMark 1 bytes)
+    (words-never (h .0) (bWord SeededPublicKey) (seededB bytes) (λ i. none-of h (omega arith)))
+
+key-record-never : {k : ℕ} → OneOrAbove 4 k → (mark : List ℕ) (version : ℕ) (key : KeyPart → KeyRecord) (bytes : List ℕ)
     → Never k (recordAnswer mark version (aWord key) (bWord key) bytes)
 key-record-never h mark version key bytes =
-    record-never (omega arith) mark version (aWord key) (bWord key) bytes (λ i e. omega arith) (λ i e. omega arith)
+    record-never (above-lower (omega arith) h) mark version (aWord key) (bWord key) bytes (λ i. none-of h (omega arith))
+    (λ i. none-of h (omega arith))
 
-pub public-front-never : {k : ℕ} → 4 < k → (bytes : List ℕ) → Never k (publicFrontAnswer bytes)
+pub public-front-never : {k : ℕ} → OneOrAbove 4 k → (bytes : List ℕ) → Never k (publicFrontAnswer bytes)
 public-front-never h = key-record-never h publicKeyMark 1 PublicKey
 
-pub secret-front-never : {k : ℕ} → 4 < k → (bytes : List ℕ) → Never k (secretFrontAnswer bytes)
+pub secret-front-never : {k : ℕ} → OneOrAbove 4 k → (bytes : List ℕ) → Never k (secretFrontAnswer bytes)
 secret-front-never h = key-record-never h secretKeyMark 1 SecretKey
 
 -- the words of what is sealed to a key are refused under 11
 pub sealed-entry-never : {k : ℕ} → 3 < k → ¬ (11 ≡ k) → (bytes : List ℕ) → Never k (sealedEntryAnswer bytes)
-sealed-entry-never h other bytes = record-never h sealedEntryMark 1 (c1Word SealedEntry) (c2Word SealedEntry) bytes (λ i e. other e) (λ i e. other e)
+sealed-entry-never h other bytes =
+    record-never (omega arith) sealedEntryMark 1 (c1Word SealedEntry) (c2Word SealedEntry) bytes (λ i e. other e) (λ i e. other e)
 
 pub encapsulation-never : {k : ℕ} → 0 < k → ¬ (11 ≡ k) → (bytes : List ℕ) → Never k (encapsulationAnswer bytes)
 encapsulation-never some other bytes =

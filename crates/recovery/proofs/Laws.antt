@@ -19,7 +19,8 @@ pub found-triple : (o : Outcome) → asTriple (answer o .triple) ≡ answered o
 found-triple (found t) = refl
 found-triple failed = refl
 
-pub verified-answer : (o : Outcome) (body tag : List ℕ)
-    → andThen (outcomeAnswer o) (unless (genuine? (answered o .r) (answered o .e1) (answered o .e2) body tag) TagMismatch Done) ≡ openedAnswer o body tag
-verified-answer (found t) body tag = refl
-verified-answer failed body tag = refl
+-- 9, then 10
+pub verified-answer : (o : Outcome) (blocks tag : List ℕ)
+    → andThen (outcomeAnswer o) (unless (genuine? (answered o .r) (answered o .e1) (answered o .e2) blocks tag) TagMismatch Done) ≡ openedAnswer o blocks tag
+verified-answer (found t) blocks tag = refl
+verified-answer failed blocks tag = refl

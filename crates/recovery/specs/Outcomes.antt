@@ -1,4 +1,4 @@
--- What an opening answers and gives by a key, an encapsulation or a sealed entry, and a dummy that were read.
+-- What an opening answers and gives by a key, an encapsulation, and a dummy that were read.
 use mathlib.Core.List.{List}
 use Prim.Native.Nat.{ℕ}
 use Rattle.lists.specs.Table.{zeros}
@@ -7,7 +7,7 @@ use Rattle.ring.specs.Ring.{n}
 use Rattle.scheme.specs.Scheme.{Triple, Outcome, found, failed, decapsulation}
 use Rattle.scheme.specs.Answers as Struct
 use Rattle.scheme.specs.declared.Triple as Declared
-use Rattle.derivation.specs.Derivation.{verifiedEntry}
+use Rattle.derivation.specs.Derivation.{key0}
 use Rattle.answers.specs.declared.Answer.{Answer}
 use Rattle.answers.specs.Answers.{andThen}
 use Rattle.keys.specs.declared.SecretKey.{SecretKey}
@@ -32,10 +32,10 @@ outcomeBy key inverse dummy c1 c2 =
 abbrev pub decapsulatedBy : (key encapsulation dummy : Answer) (o : Outcome) → Answer
 decapsulatedBy key encapsulation dummy o = andThen key (andThen encapsulation (andThen dummy (outcomeAnswer o)))
 
--- 9 and 10 behind the answers to key and sealed entry
-abbrev pub openedBy : (key sealed : Answer) (o : Outcome) (body tag : List ℕ) → Answer
-openedBy key sealed o body tag = andThen key (andThen sealed (openedAnswer o body tag))
+-- 9 and 10 behind the answers to key and sealed entry or batch, whose tag is that of `blocks`
+abbrev pub openedBy : (key sealed : Answer) (o : Outcome) (blocks tag : List ℕ) → Answer
+openedBy key sealed o blocks tag = andThen key (andThen sealed (openedAnswer o blocks tag))
 
--- the entry where a triple was found and the tag is right; what zeros give where none was found
-abbrev pub verifiedBy : (o : Outcome) (body tag : List ℕ) → List ℕ
-verifiedBy o body tag = verifiedEntry (answered o .r) (answered o .e1) (answered o .e2) body tag
+-- K0 of a triple
+abbrev pub tripleKey0 : Triple → List ℕ
+tripleKey0 t = key0 (t .r) (t .e1) (t .e2)

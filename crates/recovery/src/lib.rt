@@ -1,5 +1,5 @@
-// Openings of what was read: a secret key, from whatever source, an encapsulation or a sealed entry, and a dummy. Every answer is worked
-// out before they are joined in document 01's order; where no triple is found the triple is zeros.
+// Openings of what was read: a secret key, from whatever source, an encapsulation, bare or of a sealed entry or a batch, and a dummy. Every
+// answer is worked out before they are joined in document 01's order; where no triple is found the triple is zeros.
 use answers::Answer;
 use answers::Refusal;
 use keys::SecretKey;
@@ -7,11 +7,13 @@ use ntt::Spectrum;
 use octets::BLOCK_LENGTH;
 use scheme::Encapsulation;
 use scheme::Triple;
-use sealed_records::BareEncapsulation;
-use sealed_records::SealedEntry;
+use sealed_records::ReadEncapsulation;
 ghost use mathlib.Core.Path.{_≡_};
+ghost use mathlib.Core.List.{_++_};
+ghost use Prim.Native.Nat.{_%_};
+ghost use lib.ListN.{length};
 ghost use Rattle.ntt.specs.Factors.{forwardFactors, backwardFactors};
-ghost use Rattle.recovery.specs.Outcomes.{asTriple, answered, outcomeBy, decapsulatedBy, openedBy, verifiedBy};
+ghost use Rattle.recovery.specs.Outcomes.{asTriple, answered, outcomeBy, decapsulatedBy, openedBy, tripleKey0};
 
 // ---- an encapsulation
 
@@ -21,11 +23,12 @@ pub struct Decapsulated {
     pub triple: Triple,
 }
 
-// By a key that was read, the spectrum of the inverse of its b, an encapsulation and a dummy; `codes` is what the dummy's codes are answered by.
+// By a key that was read, the spectrum of the inverse of its b, an encapsulation and a dummy; `codes` is what the dummy's codes are answered
+// by.
 pub fn find_triple(
     key: SecretKey,
     inverse: Spectrum,
-    c: BareEncapsulation,
+    c: ReadEncapsulation,
     codes: Answer,
     dummy: Triple,
     forward: &[u16],
@@ -61,36 +64,38 @@ pub fn find_triple(
     }
 }
 
-// ---- a sealed entry
+// ---- the tag of a sealed entry or a batch
 
-// What is answered, and the entry that is written under Done.
-pub struct Opened {
+// What is answered, and K0, which shows the entry under Done.
+pub struct Recovered {
     pub answer: Answer,
-    pub entry: [u8; BLOCK_LENGTH],
+    pub k0: [u8; BLOCK_LENGTH],
 }
 
-// By a key that was read, the spectrum of the inverse of its b, a sealed entry and a dummy.
-pub fn recover_entry(
+// By a key that was read, the spectrum of the inverse of its b, an encapsulation and a dummy; the tag is that of the blocks in `front`, of
+// which a single entry has none, and of the body. Nothing of the entry is shown here.
+pub fn recover(
     key: SecretKey,
     inverse: Spectrum,
-    sealed: SealedEntry,
+    c: ReadEncapsulation,
     dummy: Triple,
+    front: &[u8],
+    body: &[u8],
+    tag: [u8; BLOCK_LENGTH],
     forward: &[u16],
     backward: &[u16],
-) -> Opened
-    requires { ⌜ (now forward ≡ forwardFactors) × (now backward ≡ backwardFactors) ⌝ }
-    ensures { λ o. ⌜ o .answer ≡ openedBy (key .answer) (sealed .answer) (outcomeBy key inverse dummy (sealed .c1) (sealed .c2)) (sealed .body) (sealed .tag) ⌝ }
-    ensures { λ o. ⌜ o .entry ≡ verifiedBy (outcomeBy key inverse dummy (sealed .c1) (sealed .c2)) (sealed .body) (sealed .tag) ⌝ }
+) -> Recovered
+    requires { ⌜ (length (now front) % 16 ≡ 0) × (now forward ≡ forwardFactors) × (now backward ≡ backwardFactors) ⌝ }
+    ensures { λ r. ⌜ r .answer ≡ openedBy (key .answer) (c .answer) (outcomeBy key inverse dummy (c .c1) (c .c2)) (now (front .entry) ++ now (body .entry)) tag ⌝ }
+    ensures { λ r. ⌜ r .k0 ≡ tripleKey0 (answered (outcomeBy key inverse dummy (c .c1) (c .c2))) ⌝ }
 {
     let checked = key.answer;
     let a = key.a;
     let b = key.b;
     let s = key.s;
-    let record = sealed.answer;
-    let c1 = sealed.c1;
-    let c2 = sealed.c2;
-    let body = sealed.body;
-    let tag = sealed.tag;
+    let words = c.answer;
+    let c1 = c.c1;
+    let c2 = c.c2;
     let d = scheme::decapsulate(
         a,
         b,
@@ -106,12 +111,12 @@ pub fn recover_entry(
     let r = t.r;
     let e1 = t.e1;
     let e2 = t.e2;
-    let v = derivation::verify(r, e1, e2, body, tag);
+    let v = derivation::verify(r, e1, e2, front, body, tag);
     let genuine = answers::unless(v.genuine, Refusal::TagMismatch);
-    let entry = v.entry;
-    let rest = answers::and_then(record, answers::and_then(found, genuine));
-    Opened {
+    let k0 = v.k0;
+    let rest = answers::and_then(words, answers::and_then(found, genuine));
+    Recovered {
         answer: answers::and_then(checked, rest),
-        entry,
+        k0,
     }
 }

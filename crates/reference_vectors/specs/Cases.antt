@@ -17,14 +17,16 @@ use Rattle.vectors.specs.Answers.{same?, verdictOf}
 use Rattle.case_outputs.specs.Outputs.{output}
 use Rattle.key_cases.specs.KeyCases.{checkAgrees?, keygenAgrees?}
 use Rattle.call_cases.specs.CallCases.{sizeField, callAgrees?}
+use Rattle.batch_cases.specs.BatchCases.{openBatchAgrees?}
 use Rattle.reference_vectors.specs.declared.Kind.{Kind}
-use Rattle.reference_vectors.specs.declared.Kind.the-variants.{CheckSecretKey, Keygen, Writing, Noise, Desk}
+use Rattle.reference_vectors.specs.declared.Kind.the-variants.{CheckSecretKey, Keygen, Writing, OpenBatch, Noise, Desk}
 
 -- the last field of a case
 abbrev pub lastField : Kind → ℕ
 lastField CheckSecretKey = 2
 lastField (Keygen source) = 8
 lastField (Writing call) = sizeField call + 3
+lastField OpenBatch = 7
 lastField Noise = 3
 lastField Desk = 3
 
@@ -58,6 +60,7 @@ abbrev pub agrees? : Kind → List ℕ → Bool
 agrees? CheckSecretKey text = checkAgrees? text
 agrees? (Keygen source) text = keygenAgrees? source text (output 3 text) (output 4 text)
 agrees? (Writing call) text = callAgrees? call text (output (sizeField call) text)
+agrees? OpenBatch text = openBatchAgrees? text (output 3 text)
 agrees? Noise text = noiseAgrees? text
 agrees? Desk text = deskAgrees? text
 

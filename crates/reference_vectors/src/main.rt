@@ -16,6 +16,7 @@ enum Kind {
     CheckSecretKey,
     Keygen(Source),
     Writing(Call),
+    OpenBatch,
     Noise,
     Desk,
 }
@@ -70,6 +71,7 @@ fn last_field(kind: Kind) -> usize
         Kind::CheckSecretKey => 2,
         Kind::Keygen(_) => 8,
         Kind::Writing(call) => call_cases::size_field(call) + 3,
+        Kind::OpenBatch => 7,
         Kind::Noise => 3,
         Kind::Desk => 3,
     }
@@ -82,6 +84,7 @@ fn agrees(kind: Kind, text: &[u8]) -> bool
         Kind::CheckSecretKey => key_cases::check_agrees(text),
         Kind::Keygen(source) => key_cases::keygen_case_agrees(source, text),
         Kind::Writing(call) => call_cases::call_case_agrees(call, text),
+        Kind::OpenBatch => batch_cases::open_batch_case_agrees(text),
         Kind::Noise => noise_agrees(text),
         Kind::Desk => desk_agrees(text),
     }
@@ -137,6 +140,11 @@ fn check_call_files() {
     check_file(Kind::Writing(Call::Shake256), b"shake256.bin");
 }
 
+fn check_batch_files() {
+    check_file(Kind::Writing(Call::SealBatch), b"seal_batch.bin");
+    check_file(Kind::OpenBatch, b"open_batch.bin");
+}
+
 fn check_desk_file() {
     check_file(Kind::Desk, b"desk.bin");
 }
@@ -148,6 +156,7 @@ fn check_example_files() {
 fn main() {
     check_key_files();
     check_call_files();
+    check_batch_files();
     check_desk_file();
     check_example_files();
 }

@@ -8,61 +8,58 @@ use encoding::ELEMENT_LENGTH;
 use ntt::Element;
 use octets::BLOCK_LENGTH;
 use records::ENCAPSULATION_LENGTH;
-use records::Elements;
 use records::Places;
 use records::SEALED_ENTRY_LENGTH;
 use records::SEALED_ENTRY_MARK;
 use records::TAG;
 use records::THIRD;
 ghost use mathlib.Core.Path.{_≡_};
+ghost use Prim.Native.Nat.{_≤_};
 ghost use lib.ListN.{length};
 ghost use Rattle.answers.specs.declared.EncapsulationRecord.the-variants as Kind;
-ghost use Rattle.records.specs.Layout.{sealedEntryLength, encapsulationLength};
-ghost use Rattle.records.specs.Records.{c1Word, c2Word, firstOf, secondOf, bodyPart, tagPart, sealedEntryAnswer, sealedEntryBytes};
+ghost use Rattle.records.specs.Layout.{thirdPlace, sealedEntryLength, encapsulationLength};
+ghost use Rattle.records.specs.Records.{c1Word, c2Word, firstOf, secondOf, sealedEntryBytes};
 ghost use Rattle.records.specs.Records.{c1Of, c2Of, encapsulationAnswer, encapsulationBytes};
-ghost use Rattle.records.specs.Read.{placesAnswer, frontOf};
+ghost use Rattle.records.specs.Read.{placesAnswer};
+ghost use Rattle.sealed_records.specs.Front.{sealedFrontAnswer};
+
+// What is read: c1, c2, and what the checks of the record answer.
+pub struct ReadEncapsulation {
+    pub answer: Answer,
+    pub c1: Element,
+    pub c2: Element,
+}
 
 // ---- sealed entries
 
-// What the front of a sealed entry is answered by; its first word that is q or more is named.
-fn front_answer(read: Elements) -> Answer
-    ensures { λ a. ⌜ a ≡ frontOf read (c1Word Kind.SealedEntry (read .unreduced .first)) (c2Word Kind.SealedEntry (read .unreduced .second)) ⌝ }
+// What the words of a sealed entry are answered by; the first that is q or more is named.
+fn sealed_words_answer(at: Places) -> Answer
+    ensures { λ a. ⌜ a ≡ placesAnswer at (c1Word Kind.SealedEntry (at .first)) (c2Word Kind.SealedEntry (at .second)) ⌝ }
 {
-    let at = read.unreduced;
     let c1 = EncapsulationRecord::SealedEntry(EncapsulationPart::C1(at.first));
     let c2 = EncapsulationRecord::SealedEntry(EncapsulationPart::C2(at.second));
-    records::front_answer(
-        read,
+    records::places_answer(
+        at,
         Refusal::EncapsulationOutOfRange(c1),
         Refusal::EncapsulationOutOfRange(c2),
     )
 }
 
-// What the checks of a sealed entry answer, and its parts.
-pub struct SealedEntry {
-    pub answer: Answer,
-    pub c1: Element,
-    pub c2: Element,
-    pub body: [u8; BLOCK_LENGTH],
-    pub tag: [u8; BLOCK_LENGTH],
-}
-
-pub fn read_sealed_entry(bytes: &[u8]) -> SealedEntry
-    requires { ⌜ length (now bytes) ≡ sealedEntryLength ⌝ }
-    ensures { λ r. ⌜ r .answer ≡ sealedEntryAnswer (now (bytes .entry)) ⌝ }
+// The front of a sealed entry or of a batch, by its version; `between` is what is answered between its header and its words.
+pub fn read_sealed(bytes: &[u8], version: u16, between: Answer) -> ReadEncapsulation
+    requires { ⌜ thirdPlace ≤ length (now bytes) ⌝ }
+    ensures { λ r. ⌜ r .answer ≡ sealedFrontAnswer version between (now (bytes .entry)) ⌝ }
     ensures { λ r. ⌜ (r .c1 ≡ firstOf (now (bytes .entry))) × (r .c2 ≡ secondOf (now (bytes .entry))) ⌝ }
-    ensures { λ r. ⌜ (r .body ≡ bodyPart (now (bytes .entry))) × (r .tag ≡ tagPart (now (bytes .entry))) ⌝ }
 {
-    let read = records::read_record(bytes, SEALED_ENTRY_MARK, 1);
-    let answer = front_answer(read);
+    let read = records::read_record(bytes, SEALED_ENTRY_MARK, version);
+    let header = read.header;
+    let words = sealed_words_answer(read.unreduced);
     let c1 = read.first;
     let c2 = read.second;
-    SealedEntry {
-        answer,
+    ReadEncapsulation {
+        answer: answers::and_then(header, answers::and_then(between, words)),
         c1,
         c2,
-        body: octets::read_block(&bytes[THIRD..TAG]),
-        tag: octets::read_block(&bytes[TAG..SEALED_ENTRY_LENGTH]),
     }
 }
 
@@ -96,14 +93,7 @@ fn words_answer(at: Places) -> Answer
     )
 }
 
-// What the checks of an encapsulation answer, and its parts.
-pub struct BareEncapsulation {
-    pub answer: Answer,
-    pub c1: Element,
-    pub c2: Element,
-}
-
-pub fn read_encapsulation(bytes: &[u8]) -> BareEncapsulation
+pub fn read_encapsulation(bytes: &[u8]) -> ReadEncapsulation
     requires { ⌜ length (now bytes) ≡ encapsulationLength ⌝ }
     ensures { λ r. ⌜ r .answer ≡ encapsulationAnswer (now (bytes .entry)) ⌝ }
     ensures { λ r. ⌜ (r .c1 ≡ c1Of (now (bytes .entry))) × (r .c2 ≡ c2Of (now (bytes .entry))) ⌝ }
@@ -114,7 +104,7 @@ pub fn read_encapsulation(bytes: &[u8]) -> BareEncapsulation
         first: encoding::first_unreduced(c1),
         second: encoding::first_unreduced(c2),
     };
-    BareEncapsulation {
+    ReadEncapsulation {
         answer: words_answer(unreduced),
         c1,
         c2,

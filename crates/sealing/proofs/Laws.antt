@@ -1,20 +1,33 @@
 -- Encapsulation and sealing with a key that is given by its spectra.
 use mathlib.Core.Path.{_≡_, refl, ap, ap₂, _∙_}
-use mathlib.Core.List.{List, _++_}
+use mathlib.Core.List.{List}
 use Prim.Native.Nat.{ℕ}
 use lib.ListN.{length}
 use Rattle.ntt.specs.Spectrum.{spectrumOf, coefficientsOf}
 use Rattle.ring.specs.Ring.{n}
 use Rattle.scheme.specs.Scheme.{Triple, masked}
 use Rattle.scheme.proofs.Steps.{masked-through}
-use Rattle.records.specs.Layout.{sealedEntryMark}
-use Rattle.records.specs.Records.{recordBytes, encapsulationBytes, sealedEntryBytes}
-use Rattle.calls.specs.Calls.{encapsulatedWith, sealedWith}
+use Rattle.answers.specs.declared.Answer.{Answer}
+use Rattle.answers.specs.declared.Answer.the-variants.{Done, Refused}
+use Rattle.answers.specs.Answers.{andThen, onDone}
+use Rattle.records.specs.Records.{encapsulationBytes}
+use Rattle.public_keys.specs.PublicKeys.{publicA, publicB}
+use Rattle.keys.specs.Keys.{noiseTriple}
+use Rattle.calls.specs.Calls.{encapsulatedWith, sealAnswer, protectedEntry, sealedWith, sealedBytes, sealOut}
 
--- the bytes of equal parts
-pub sealed-by : {c1 c1′ c2 c2′ body body′ tag tag′ : List ℕ} → c1 ≡ c1′ → c2 ≡ c2′ → body ≡ body′ → tag ≡ tag′
-    → sealedEntryBytes c1 c2 body tag ≡ sealedEntryBytes c1′ c2′ body′ tag′
-sealed-by e1 e2 eb et = ap₂ _++_ (ap₂ _++_ (ap₂ (recordBytes sealedEntryMark 1) e1 e2) eb) et
+-- where nothing follows
+pub then-nothing : (a : Answer) → andThen a Done ≡ a
+then-nothing Done = refl
+then-nothing (Refused r) = refl
+
+-- what the output holds by what is said
+pub seal-written : (k noise entry out : List ℕ) {a : Answer} {c1 c2 : List ℕ} {t : Triple} → a ≡ sealAnswer k noise entry (length out)
+    → t ≡ noiseTriple noise → c1 ≡ masked (publicA k) (t .r) (t .e1) → c2 ≡ masked (publicB k) (t .r) (t .e2)
+    → onDone a (protectedEntry c1 c2 t entry) out ≡ sealOut k noise entry out
+unfolding sealOut sealedBytes sealedWith
+seal-written k noise entry out {a} {t = t} ea et e1 e2 =
+    ap₂ (λ (x y : List ℕ). onDone a (protectedEntry x y t entry) out) e1 e2
+    ∙ ap₂ (λ (a : Answer) (t : Triple). onDone a (sealedWith (publicA k) (publicB k) t entry) out) ea et
 
 -- v is the spectrum of a
 masked-by : (a v r e : List ℕ) → length a ≡ n → v ≡ spectrumOf a → masked (coefficientsOf v) r e ≡ masked a r e
@@ -22,13 +35,13 @@ masked-by a v r e size ev = ap (λ (w : List ℕ). masked (coefficientsOf w) r e
 
 -- v and w are the spectra of a and b
 module _ (a b : List ℕ) {v w : List ℕ} (a-size : length a ≡ n) (b-size : length b ≡ n) (ev : v ≡ spectrumOf a) (ew : w ≡ spectrumOf b) where
+  -- by the elements themselves
+  pub masked-both : {c1 c2 : List ℕ} (t : Triple) → c1 ≡ masked (coefficientsOf v) (t .r) (t .e1) → c2 ≡ masked (coefficientsOf w) (t .r) (t .e2)
+      → (c1 ≡ masked a (t .r) (t .e1)) × (c2 ≡ masked b (t .r) (t .e2))
+  masked-both t e1 e2 = (e1 ∙ masked-by a v _ _ a-size ev, e2 ∙ masked-by b w _ _ b-size ew)
+
   pub encapsulated-through : {c1 c2 : List ℕ} {t t′ : Triple} → c1 ≡ masked (coefficientsOf v) (t .r) (t .e1) → c2 ≡ masked (coefficientsOf w) (t .r) (t .e2) → t ≡ t′
       → encapsulationBytes c1 c2 ≡ encapsulatedWith a b t′
   unfolding encapsulatedWith
   encapsulated-through {t = t} e1 e2 et =
-      ap₂ encapsulationBytes (e1 ∙ masked-by a v _ _ a-size ev) (e2 ∙ masked-by b w _ _ b-size ew) ∙ ap (encapsulatedWith a b) et
-
-  pub sealed-through : {t t′ : Triple} {entry entry′ : List ℕ} → t ≡ t′ → entry ≡ entry′
-      → sealedWith (coefficientsOf v) (coefficientsOf w) t entry ≡ sealedWith a b t′ entry′
-  unfolding sealedWith
-  sealed-through et ee = sealed-by (masked-by a v _ _ a-size ev) (masked-by b w _ _ b-size ew) refl refl ∙ ap₂ (sealedWith a b) et ee
+      ap₂ encapsulationBytes (masked-both t e1 e2 .0) (masked-both t e1 e2 .1) ∙ ap (encapsulatedWith a b) et

@@ -20,11 +20,11 @@ ghost use Rattle.scheme.specs.Scheme.{masked};
 ghost use Rattle.scheme.specs.Answers as Struct;
 ghost use Rattle.answers.specs.Answers.{andThen, onDone};
 ghost use Rattle.records.specs.Layout.{sealedEntryLength, encapsulationLength, tripleLength, blockLength};
-ghost use Rattle.records.specs.Records.{sealedEntryBytes, encapsulationBytes};
+ghost use Rattle.records.specs.Records.{encapsulationBytes};
 ghost use Rattle.triples.specs.Triple.{tripleOf, tripleAnswer};
 ghost use Rattle.public_keys.specs.PublicKeys.{publicLength?, publicA, publicB, publicAnswer};
-ghost use Rattle.keys.specs.Keys.{tripleNoiseLength};
-ghost use Rattle.calls.specs.Calls.{encapsulateAnswer, encapsulatedWith, encapsulateOut, sealAnswer, sealedWith, sealedBytes, sealOut};
+ghost use Rattle.keys.specs.Keys.{tripleNoiseLength, noiseTriple};
+ghost use Rattle.calls.specs.Calls.{encapsulateAnswer, encapsulatedWith, encapsulateOut, sealAnswer, protectedEntry, sealOut};
 
 // ---- encapsulate
 
@@ -35,7 +35,7 @@ struct Encapsulated {
     c2: Element,
 }
 
-// By a key and a triple that were read; `codes` is what the triple's codes are answered by.
+// By a key and a triple that were read; `codes` is what the triple's codes are answered by, Done where it is from noise.
 fn encapsulate_with(
     key: PublicKey,
     codes: Answer,
@@ -103,55 +103,22 @@ pub fn encapsulate(key: &[u8], triple: &[u8], out: &mut [u8]) -> Answer
     answer
 }
 
-// ---- seal
+// ---- what sealing an entry and sealing a batch share
 
-// What is answered, and what is written under Done.
-struct Sealed {
-    answer: Answer,
-    c1: Element,
-    c2: Element,
-    body: [u8; BLOCK_LENGTH],
-    tag: [u8; BLOCK_LENGTH],
+// An encapsulation by a triple from noise, with that triple, and what the key is answered by.
+pub struct Prepared {
+    pub answer: Answer,
+    pub c1: Element,
+    pub c2: Element,
+    pub triple: Triple,
 }
 
-// By a key and a triple that were read.
-fn seal_with(
-    key: PublicKey,
-    t: Triple,
-    entry: [u8; BLOCK_LENGTH],
-    forward: &[u16],
-    backward: &[u16],
-) -> Sealed
-    requires { ⌜ (now forward ≡ forwardFactors) × (now backward ≡ backwardFactors) ⌝ }
-    ensures { λ s. ⌜ s .answer ≡ key .answer ⌝ }
-    ensures { λ s. ⌜ sealedEntryBytes (s .c1) (s .c2) (s .body) (s .tag) ≡ sealedWith (coefficientsOf (key .a)) (coefficientsOf (key .b)) (Struct.tripleOf t) entry ⌝ }
-{
-    let answer = key.answer;
-    let a = key.a;
-    let b = key.b;
-    let r = t.r;
-    let e1 = t.e1;
-    let e2 = t.e2;
-    let c = scheme::encapsulate(a, b, t, forward, backward);
-    let c1 = c.c1;
-    let c2 = c.c2;
-    let p = derivation::protect(r, e1, e2, entry);
-    let body = p.body;
-    let tag = p.tag;
-    Sealed {
-        answer,
-        c1,
-        c2,
-        body,
-        tag,
-    }
-}
-
-// Of a record, noise and an entry with the right lengths.
-fn seal_records(key: &[u8], noise: &[u8], entry: &[u8]) -> Sealed
-    requires { ⌜ (publicLength? (length (now key)) ≡ true) × (length (now noise) ≡ tripleNoiseLength) × (length (now entry) ≡ blockLength) ⌝ }
-    ensures { λ s. ⌜ s .answer ≡ publicAnswer (now (key .entry)) ⌝ }
-    ensures { λ s. ⌜ sealedEntryBytes (s .c1) (s .c2) (s .body) (s .tag) ≡ sealedBytes (now (key .entry)) (now (noise .entry)) (now (entry .entry)) ⌝ }
+// For a key and noise with the right lengths.
+pub fn encapsulate_noise(key: &[u8], noise: &[u8]) -> Prepared
+    requires { ⌜ (publicLength? (length (now key)) ≡ true) × (length (now noise) ≡ tripleNoiseLength) ⌝ }
+    ensures { λ p. ⌜ p .answer ≡ publicAnswer (now (key .entry)) ⌝ }
+    ensures { λ p. ⌜ Struct.tripleOf (p .triple) ≡ noiseTriple (now (noise .entry)) ⌝ }
+    ensures { λ p. ⌜ (p .c1 ≡ masked (publicA (now (key .entry))) (p .triple .r) (p .triple .e1)) × (p .c2 ≡ masked (publicB (now (key .entry))) (p .triple .r) (p .triple .e2)) ⌝ }
 {
     let mut forward = [0u16; FACTORS];
     let mut backward = [0u16; FACTORS];
@@ -159,19 +126,31 @@ fn seal_records(key: &[u8], noise: &[u8], entry: &[u8]) -> Sealed
     ntt::backward_factors(&mut backward);
     let k = public_keys::read_public_key(key, &forward);
     let t = keys::noise_triple(noise);
-    let block = octets::read_block(entry);
-    seal_with(k, t, block, &forward, &backward)
+    let e = encapsulate_with(k, Answer::Done, t, &forward, &backward);
+    let answer = e.answer;
+    let c1 = e.c1;
+    let c2 = e.c2;
+    Prepared {
+        answer,
+        c1,
+        c2,
+        triple: t,
+    }
 }
 
-fn write_sealed(answer: Answer, s: Sealed, out: &mut [u8])
-    requires { ⌜ length (now out) ≡ sealedEntryLength ⌝ }
-    ensures { λ _. ⌜ now (out .exit) ≡ onDone answer (sealedEntryBytes (s .c1) (s .c2) (s .body) (s .tag)) (now (out .entry)) ⌝ }
+// ---- seal
+
+// An entry of 16 bytes, protected by the triple, behind c1 and c2.
+fn write_sealed(answer: Answer, c1: Element, c2: Element, t: Triple, entry: &[u8], out: &mut [u8])
+    requires { ⌜ (length (now entry) ≡ blockLength) × (length (now out) ≡ sealedEntryLength) ⌝ }
+    ensures { λ _. ⌜ now (out .exit) ≡ onDone answer (protectedEntry c1 c2 (Struct.tripleOf t) (now (entry .entry))) (now (out .entry)) ⌝ }
 {
     if let Answer::Done = answer {
-        let c1 = s.c1;
-        let c2 = s.c2;
-        let body = s.body;
-        let tag = s.tag;
+        let r = t.r;
+        let e1 = t.e1;
+        let e2 = t.e2;
+        let mut body = [0u8; BLOCK_LENGTH];
+        let tag = derivation::protect(r, e1, e2, &entry[0..0], entry, &mut body);
         sealed_records::write_sealed_entry(c1, c2, body, tag, out);
     }
 }
@@ -187,8 +166,11 @@ pub fn seal(key: &[u8], noise: &[u8], entry: &[u8], out: &mut [u8]) -> Answer
     if !fits {
         return Answer::Refused(Refusal::WrongLength);
     }
-    let s = seal_records(key, noise, entry);
-    let answer = s.answer;
-    write_sealed(answer, s, out);
+    let p = encapsulate_noise(key, noise);
+    let answer = p.answer;
+    let c1 = p.c1;
+    let c2 = p.c2;
+    let t = p.triple;
+    write_sealed(answer, c1, c2, t, entry, out);
     answer
 }

@@ -36,7 +36,8 @@ returns c =
     let args = place .before .before .before .args in
     let text = now (args .text) in
     let size = sized .room .ensures .0 ∙ ap (λ (k : ℕ). room k text) (place .size-field .ensures .0) in
-    c .before .call-agrees .ensures .0 ∙ ap (callAgrees? (args .call) text) (filled-output (sizeField (args .call)) text size (place .before .output-buffer .ensures))
+    c .before .call-agrees .ensures .0
+    ∙ ap (callAgrees? (args .call) text) (filled-output (sizeField (args .call)) text size (place .before .output-buffer .ensures))
 
 pub call-case-agrees-spec : {M : Type 1} → statement M
 call-case-agrees-spec =

@@ -1,6 +1,6 @@
 use mathlib.Core.Path.{refl}
 use denote.Ref.{now}
-use Rattle.call_cases.specs.declared.Call.the-variants.{Encapsulate, Decapsulate, Seal, Open, Shake128, Shake256}
+use Rattle.call_cases.specs.declared.Call.the-variants.{Encapsulate, Decapsulate, Seal, Open, SealBatch, Shake128, Shake256}
 use Rattle.call_cases.proofs.Calls.{called}
 use borrow.Author.Needs.{needs}
 use Rattle.call_cases.proofs.run.Statement.{statement}
@@ -33,11 +33,17 @@ open-requires c κs = search needs
 enum-told-5 : tie.Need-enum-told-5
 enum-told-5 c = search needs
 
-shake128-requires : tie.Need-shake128-requires
-shake128-requires c κs = search needs
+seal-batch-requires : tie.Need-seal-batch-requires
+seal-batch-requires c κs = search needs
 
 enum-told-6 : tie.Need-enum-told-6
 enum-told-6 c = search needs
+
+shake128-requires : tie.Need-shake128-requires
+shake128-requires c κs = search needs
+
+enum-told-7 : tie.Need-enum-told-7
+enum-told-7 c = search needs
 
 shake256-requires : tie.Need-shake256-requires
 shake256-requires c κs = search needs
@@ -48,7 +54,8 @@ same-length c = search needs
 returns : tie.Need-returns
 returns c =
     let args = c .before .before .before .before .before .before .before .before .before .before .args in
-    called Encapsulate (now (args .x)) (now (args .y)) (now (args .z)) (now (args .out)) (c .before .before .before .before .enum-told .given .1) (c .before .before .encapsulate .ensures)
+    called Encapsulate (now (args .x)) (now (args .y)) (now (args .z)) (now (args .out))
+    (c .before .before .before .before .enum-told .given .1) (c .before .before .encapsulate .ensures)
 
 same-length-2 : tie.Need-same-length-2
 same-length-2 c = search needs
@@ -56,7 +63,8 @@ same-length-2 c = search needs
 returns-2 : tie.Need-returns-2
 returns-2 c =
     let args = c .before .before .before .before .before .before .before .before .before .before .args in
-    called Decapsulate (now (args .x)) (now (args .y)) (now (args .z)) (now (args .out)) (c .before .before .before .before .enum-told2 .given .1) (c .before .before .decapsulate .ensures .0, c .before .before .decapsulate .ensures .1 .0)
+    called Decapsulate (now (args .x)) (now (args .y)) (now (args .z)) (now (args .out))
+    (c .before .before .before .before .enum-told2 .given .1) (c .before .before .decapsulate .ensures .0, c .before .before .decapsulate .ensures .1 .0)
 
 same-length-3 : tie.Need-same-length-3
 same-length-3 c = search needs
@@ -64,7 +72,8 @@ same-length-3 c = search needs
 returns-3 : tie.Need-returns-3
 returns-3 c =
     let args = c .before .before .before .before .before .before .before .before .before .before .args in
-    called Seal (now (args .x)) (now (args .y)) (now (args .z)) (now (args .out)) (c .before .before .before .before .enum-told3 .given .1) (c .before .before .seal .ensures)
+    called Seal (now (args .x)) (now (args .y)) (now (args .z)) (now (args .out))
+    (c .before .before .before .before .enum-told3 .given .1) (c .before .before .seal .ensures)
 
 same-length-4 : tie.Need-same-length-4
 same-length-4 c = search needs
@@ -72,7 +81,8 @@ same-length-4 c = search needs
 returns-4 : tie.Need-returns-4
 returns-4 c =
     let args = c .before .before .before .before .before .before .before .before .before .before .args in
-    called Open (now (args .x)) (now (args .y)) (now (args .z)) (now (args .out)) (c .before .before .before .before .enum-told4 .given .1) (c .before .before .«open» .ensures .0, c .before .before .«open» .ensures .1 .0)
+    called Open (now (args .x)) (now (args .y)) (now (args .z)) (now (args .out))
+    (c .before .before .before .before .enum-told4 .given .1) (c .before .before .«open» .ensures .0, c .before .before .«open» .ensures .1 .0)
 
 same-length-5 : tie.Need-same-length-5
 same-length-5 c = search needs
@@ -80,7 +90,8 @@ same-length-5 c = search needs
 returns-5 : tie.Need-returns-5
 returns-5 c =
     let args = c .before .before .before .before .before .before .before .before .before .before .args in
-    called Shake128 (now (args .x)) (now (args .y)) (now (args .z)) (now (args .out)) (c .before .before .before .before .enum-told5 .given .1) (refl, c .before .before .shake128 .ensures)
+    called SealBatch (now (args .x)) (now (args .y)) (now (args .z)) (now (args .out))
+    (c .before .before .before .before .enum-told5 .given .1) (c .before .before .seal-batch .ensures)
 
 same-length-6 : tie.Need-same-length-6
 same-length-6 c = search needs
@@ -88,7 +99,17 @@ same-length-6 c = search needs
 returns-6 : tie.Need-returns-6
 returns-6 c =
     let args = c .before .before .before .before .before .before .before .before .before .before .args in
-    called Shake256 (now (args .x)) (now (args .y)) (now (args .z)) (now (args .out)) (c .before .before .before .before .enum-told6 .given .1) (refl, c .before .before .shake256 .ensures)
+    called Shake128 (now (args .x)) (now (args .y)) (now (args .z)) (now (args .out))
+    (c .before .before .before .before .enum-told6 .given .1) (refl, c .before .before .shake128 .ensures)
+
+same-length-7 : tie.Need-same-length-7
+same-length-7 c = search needs
+
+returns-7 : tie.Need-returns-7
+returns-7 c =
+    let args = c .before .before .before .before .before .before .before .before .before .before .args in
+    called Shake256 (now (args .x)) (now (args .y)) (now (args .z)) (now (args .out))
+    (c .before .before .before .before .enum-told7 .given .1) (refl, c .before .before .shake256 .ensures)
 
 pub run-spec : {M : Type 1} → statement M
 run-spec =
@@ -103,8 +124,10 @@ run-spec =
     enum-told-4
     open-requires
     enum-told-5
-    shake128-requires
+    seal-batch-requires
     enum-told-6
+    shake128-requires
+    enum-told-7
     shake256-requires
     same-length
     returns
@@ -117,4 +140,6 @@ run-spec =
     same-length-5
     returns-5
     same-length-6
-    returns-6)
+    returns-6
+    same-length-7
+    returns-7)

@@ -7,8 +7,8 @@ use Rattle.opening.proofs.write_entry.Tie as tie
 enum-told : tie.Need-enum-told
 enum-told c = search needs
 
-write-block-requires : tie.Need-write-block-requires
-write-block-requires c κs = search needs
+under-keystream-requires : tie.Need-under-keystream-requires
+under-keystream-requires c κs = search needs
 
 enum-told-2 : tie.Need-enum-told-2
 enum-told-2 c = search needs
@@ -17,11 +17,12 @@ same-length : tie.Need-same-length
 same-length c = search needs
 
 returns : tie.Need-returns
-returns c = c .before .before .write-block .ensures ∙ sym (on-done _ _ (c .before .before .before .before .enum-told .given .1))
+returns c = c .before .before .under-keystream .ensures ∙ sym (on-done _ _ (c .before .before .before .before .enum-told .given .1))
 
 returns-2 : tie.Need-returns-2
 returns-2 c = search needs
 
 pub write-entry-spec : {M : Type 1} → statement M
 write-entry-spec =
-    tie.close (tie.spec enum-told write-block-requires enum-told-2 same-length returns returns-2)
+    tie.close
+    (tie.spec enum-told under-keystream-requires enum-told-2 same-length returns returns-2)

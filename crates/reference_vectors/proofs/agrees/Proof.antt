@@ -23,11 +23,17 @@ call-case-agrees-requires c κs = search needs
 enum-told-2 : tie.Need-enum-told-2
 enum-told-2 c = search needs
 
-noise-agrees-requires : tie.Need-noise-agrees-requires
-noise-agrees-requires c κs = search needs
+open-batch-case-agrees-requires : tie.Need-open-batch-case-agrees-requires
+open-batch-case-agrees-requires c κs = search needs
 
 enum-told-3 : tie.Need-enum-told-3
 enum-told-3 c = search needs
+
+noise-agrees-requires : tie.Need-noise-agrees-requires
+noise-agrees-requires c κs = search needs
+
+enum-told-4 : tie.Need-enum-told-4
+enum-told-4 c = search needs
 
 desk-agrees-requires : tie.Need-desk-agrees-requires
 desk-agrees-requires c κs = search needs
@@ -42,10 +48,13 @@ returns-3 : tie.Need-returns-3
 returns-3 c = rw (c .before .before .kind2 .given .1) (c .call-case-agrees .ensures)
 
 returns-4 : tie.Need-returns-4
-returns-4 c = rw (c .before .enum-told2 .given .1) (c .noise-agrees .ensures)
+returns-4 c = rw (c .before .enum-told2 .given .1) (c .open-batch-case-agrees .ensures)
 
 returns-5 : tie.Need-returns-5
-returns-5 c = rw (c .before .enum-told3 .given .1) (c .desk-agrees .ensures)
+returns-5 c = rw (c .before .enum-told3 .given .1) (c .noise-agrees .ensures)
+
+returns-6 : tie.Need-returns-6
+returns-6 c = rw (c .before .enum-told4 .given .1) (c .desk-agrees .ensures)
 
 pub agrees-spec : {M : Type 1} → statement M
 agrees-spec =
@@ -58,11 +67,14 @@ agrees-spec =
     enum-known-kind-2
     call-case-agrees-requires
     enum-told-2
-    noise-agrees-requires
+    open-batch-case-agrees-requires
     enum-told-3
+    noise-agrees-requires
+    enum-told-4
     desk-agrees-requires
     returns
     returns-2
     returns-3
     returns-4
-    returns-5)
+    returns-5
+    returns-6)

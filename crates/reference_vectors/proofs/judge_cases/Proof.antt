@@ -56,7 +56,8 @@ returns : tie.Need-returns Inv-loop μ-loop
 returns c =
     let last = c .before .before in
     let args = last .before .before .args in
-    counted-all (c .before .loop .inv) (c .loop-test .left) ∙ ap (λ (k : ℕ). report (verdict (args .kind)) (k + 1) (now (args .text))) (last .last-field .ensures .0)
+    counted-all (c .before .loop .inv) (c .loop-test .left)
+    ∙ ap (λ (k : ℕ). report (verdict (args .kind)) (k + 1) (now (args .text))) (last .last-field .ensures .0)
 
 pub judge-cases-spec : {M : Type 1} → statement M
 judge-cases-spec =

@@ -27,6 +27,9 @@ enum-told-3 c = search needs
 enum-told-4 : tie.Need-enum-told-4
 enum-told-4 c = search needs
 
+enum-told-5 : tie.Need-enum-told-5
+enum-told-5 c = search needs
+
 returns : tie.Need-returns
 returns c = search needs
 
@@ -34,13 +37,18 @@ returns-2 : tie.Need-returns-2
 returns-2 c = search needs
 
 returns-3 : tie.Need-returns-3
-returns-3 c = (ap (λ (k : ℕ). k + 3) (c .size-field .ensures .0) ∙ sym (ap lastField (c .before .before .kind .given .1)), omega (arith, c .size-field .ensures .1))
+returns-3 c =
+    let field = ap (λ (k : ℕ). k + 3) (c .size-field .ensures .0) in
+    (field ∙ sym (ap lastField (c .before .before .kind .given .1)), omega (arith, c .size-field .ensures .1))
 
 returns-4 : tie.Need-returns-4
 returns-4 c = search needs
 
 returns-5 : tie.Need-returns-5
 returns-5 c = search needs
+
+returns-6 : tie.Need-returns-6
+returns-6 c = search needs
 
 pub last-field-spec : {M : Type 1} → statement M
 last-field-spec =
@@ -53,8 +61,10 @@ last-field-spec =
     add-result
     enum-told-3
     enum-told-4
+    enum-told-5
     returns
     returns-2
     returns-3
     returns-4
-    returns-5)
+    returns-5
+    returns-6)

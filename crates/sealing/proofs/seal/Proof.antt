@@ -1,6 +1,4 @@
-use mathlib.Core.Path.{_≡_, refl, sym, ap, ap₂, _∙_}
-use mathlib.Core.List.{List, _++_}
-use Prim.Native.Nat.{ℕ}
+use mathlib.Core.Path.{_≡_, sym, ap, _∙_}
 use denote.Ref.{now}
 use lib.ListN.{length}
 use mathlib.Core.Bool.{Bool, true, false, _&&_}
@@ -11,6 +9,7 @@ use Rattle.answers.specs.declared.Answer.{Answer}
 use Rattle.answers.specs.Answers.{unless, onDone}
 use Rattle.public_keys.specs.PublicKeys.{publicLength?, publicAnswer}
 use Rattle.calls.specs.Calls.{sealAnswer, sealedBytes, sealOut}
+use Rattle.sealing.proofs.Laws.{seal-written}
 use Rattle.calls.proofs.Lengths.{seal-fits}
 use borrow.Author.Needs.{needs}
 use Rattle.sealing.proofs.seal.Statement.{statement}
@@ -32,20 +31,22 @@ returns c =
     let answer = sym (ap (λ (b : Bool). unless b WrongLength (publicAnswer k)) misfit) in
     (answer, ap (λ (a : Answer). onDone a (sealedBytes k noise entry) old) answer)
 
-seal-records-requires : tie.Need-seal-records-requires
-seal-records-requires c κs =
+encapsulate-noise-requires : tie.Need-encapsulate-noise-requires
+encapsulate-noise-requires c κs =
     let args = c .before .before .before .before .before .before .args in
     let fits = ap (λ (b : Bool). b && eqb (length (now (args .noise))) 1536 && eqb (length (now (args .entry))) 16 && eqb (length (now (args .out))) 4133) (sym (c .before .is-public-length .ensures)) in
     let (key, noise, entry, room) =
     seal-fits (now (args .key)) (now (args .noise)) (now (args .entry)) (length (now (args .out))) .0 (fits ∙ not-false _ (c .if1 .left)) in
-    (key, noise, entry)
+    (key, noise)
 
 write-sealed-requires : tie.Need-write-sealed-requires
 write-sealed-requires c κs =
-    let left = c .before .before in
+    let left = c .before .before .before .before .before in
     let args = left .before .before .before .before .before .before .args in
     let fits = ap (λ (b : Bool). b && eqb (length (now (args .noise))) 1536 && eqb (length (now (args .entry))) 16 && eqb (length (now (args .out))) 4133) (sym (left .before .is-public-length .ensures)) in
-    seal-fits (now (args .key)) (now (args .noise)) (now (args .entry)) (length (now (args .out))) .0 (fits ∙ not-false _ (left .if1 .left)) .3
+    let (key, noise, entry, room) =
+    seal-fits (now (args .key)) (now (args .noise)) (now (args .entry)) (length (now (args .out))) .0 (fits ∙ not-false _ (left .if1 .left)) in
+    (entry, room)
 
 same-length : tie.Need-same-length
 same-length c = search needs
@@ -53,7 +54,7 @@ same-length c = search needs
 returns-2 : tie.Need-returns-2
 unfolding sealAnswer sealOut
 returns-2 c =
-    let made = c .before .before .before .before in
+    let made = c .before .before .before .before .before .before .before in
     let left = made .before in
     let args = left .before .before .before .before .before .before .args in
     let k = now (args .key) in
@@ -62,10 +63,10 @@ returns-2 c =
     let old = now (args .out) in
     let fits : publicLength? (length k) && eqb (length noise) 1536 && eqb (length entry) 16 && eqb (length old) 4133 ≡ true =
     ap (λ (b : Bool). b && eqb (length noise) 1536 && eqb (length entry) 16 && eqb (length old) 4133) (sym (left .before .is-public-length .ensures)) ∙ not-false _ (left .if1 .left) in
-    let (checked, bytes) = made .seal-records .ensures in
+    let (checked, (triple, (c1, c2))) = made .encapsulate-noise .ensures in
     let answer = checked ∙ sym (ap (λ (b : Bool). unless b WrongLength (publicAnswer k)) fits) in
-    (answer, c .before .before .write-sealed .ensures ∙ ap₂ (λ (a : Answer) (x : List ℕ). onDone a x old) answer bytes)
+    (answer, c .before .before .write-sealed .ensures ∙ seal-written k noise entry old answer triple c1 c2)
 
 pub seal-spec : {M : Type 1} → statement M
 seal-spec =
-    tie.close (tie.spec is-public-length-requires returns seal-records-requires write-sealed-requires same-length returns-2)
+    tie.close (tie.spec is-public-length-requires returns encapsulate-noise-requires write-sealed-requires same-length returns-2)

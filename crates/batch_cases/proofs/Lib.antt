@@ -1,0 +1,2 @@
+-- Laws of entries in an output.
+mod Entries

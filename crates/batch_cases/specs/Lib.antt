@@ -1,0 +1,2 @@
+-- What the contracts of `batch_cases` cite.
+pub mod BatchCases

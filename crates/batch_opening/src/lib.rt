@@ -1,0 +1,95 @@
+// The call of a desk that opens a batch (document 02, No. 4), which is lent a secret key. Buffers may have any length; under any answer but
+// Done the output is as it came, and under Done what stands behind the entries.
+use answers::Answer;
+use answers::Refusal;
+use batch_records::BATCH_OVERHEAD;
+use batch_records::BATCH_VERSION;
+use batch_records::BODY;
+use batch_records::ENTRIES_LENGTH;
+use keys::TRIPLE_NOISE_LENGTH;
+use records::SECRET_KEY_LENGTH;
+ghost use mathlib.Core.Path.{_≡_};
+ghost use Prim.Native.Nat.{_≤_};
+ghost use lib.ListN.{length};
+ghost use Rattle.answers.specs.Answers.{number, onDone};
+ghost use Rattle.records.specs.Layout.{secretKeyLength};
+ghost use Rattle.keys.specs.Keys.{tripleNoiseLength};
+ghost use Rattle.batch_records.specs.Batches.{batchOverhead, entriesLength, countOf};
+ghost use Rattle.batch_calls.specs.Calls.{openBatchAnswer, openBatchOut, openBatchCount};
+ghost use Rattle.batch_calls.specs.Promises.{OpenBatchExact};
+ghost use Rattle.batch_opening.specs.Parts.{entriesAnswer, shownEntries};
+
+// What is answered, and how many entries were shown, 0 beside a refusal.
+pub struct OpenedBatch {
+    pub answer: Answer,
+    pub count: u32,
+}
+
+// The count beside an answer.
+fn count_shown(answer: Answer, m: usize) -> u32
+    requires { ⌜ m ≤ 65535 ⌝ }
+    ensures { λ n. ⌜ n ≡ onDone answer m 0 ⌝ }
+{
+    if let Answer::Done = answer {
+        return m as u32;
+    }
+    0
+}
+
+// Of a key, a batch, noise and an output that fit. A batch whose length does not fit its count is refused as it is read, and opened without a
+// body.
+fn open_records(key: &[u8], batch: &[u8], noise: &[u8], out: &mut [u8]) -> OpenedBatch
+    requires { ⌜ (length (now key) ≡ secretKeyLength) × (batchOverhead ≤ length (now batch)) × (length (now noise) ≡ tripleNoiseLength) × (length (now out) ≡ entriesLength) ⌝ }
+    ensures { λ o. ⌜ o .answer ≡ entriesAnswer (now (key .entry)) (now (batch .entry)) (now (noise .entry)) ⌝ }
+    ensures { λ o. ⌜ o .count ≡ onDone (entriesAnswer (now (key .entry)) (now (batch .entry)) (now (noise .entry))) (countOf (now (batch .entry))) 0 ⌝ }
+    ensures { λ _. ⌜ now (out .exit) ≡ shownEntries (now (key .entry)) (now (batch .entry)) (now (noise .entry)) (now (out .entry)) ⌝ }
+{
+    let m = batch_records::count(batch);
+    let between = batch_records::count_answer(m, batch.len());
+    let size = batch_records::body_length(m, batch.len());
+    let l = batch_records::count_block(m);
+    let answer = opening::open_sealed(
+        key,
+        batch,
+        BATCH_VERSION,
+        between,
+        noise,
+        &l,
+        &batch[BODY..BODY + size],
+        &batch[BODY + size..BATCH_OVERHEAD + size],
+        &mut out[0..size],
+    );
+    OpenedBatch {
+        answer,
+        count: count_shown(answer, m),
+    }
+}
+
+pub fn open_batch(key: &[u8], batch: &[u8], noise: &[u8], out: &mut [u8]) -> OpenedBatch
+    ensures { λ o. ⌜ o .answer ≡ openBatchAnswer (now (key .entry)) (now (batch .entry)) (now (noise .entry)) (length (now (out .entry))) ⌝ }
+    ensures { λ o. ⌜ o .count ≡ openBatchCount (now (key .entry)) (now (batch .entry)) (now (noise .entry)) (length (now (out .entry))) 0 ⌝ }
+    ensures { λ _. ⌜ now (out .exit) ≡ openBatchOut (now (key .entry)) (now (batch .entry)) (now (noise .entry)) (now (out .entry)) ⌝ }
+    ensures { λ o. ⌜ OpenBatchExact (now (key .entry)) (now (batch .entry)) (now (noise .entry)) (now (out .entry)) 0 (number (o .answer)) (now (out .exit)) (o .count) ⌝ }
+{
+    let fits = (key.len() == SECRET_KEY_LENGTH)
+        & (BATCH_OVERHEAD <= batch.len())
+        & (noise.len() == TRIPLE_NOISE_LENGTH)
+        & (out.len() == ENTRIES_LENGTH);
+    if !fits {
+        return OpenedBatch {
+            answer: Answer::Refused(Refusal::WrongLength),
+            count: 0,
+        };
+    }
+    open_records(key, batch, noise, out)
+}
+
+// Writes the count of a batch that was opened to a lent number, which else stays as it came.
+pub fn write_count(opened: OpenedBatch, out: &mut u32)
+    ensures { λ _. ⌜ now (out .exit) ≡ onDone (opened .answer) (opened .count) (now (out .entry)) ⌝ }
+{
+    let answer = opened.answer;
+    if let Answer::Done = answer {
+        *out = opened.count;
+    }
+}

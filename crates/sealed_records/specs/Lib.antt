@@ -1,0 +1,2 @@
+-- The front of what is sealed.
+pub mod Front
