@@ -1,19 +1,23 @@
 /* POLKA at 1,024 coefficients with SHAKE256: the calls of the proved library libpolka.a.
  *
  * A desk makes a key pair (polka_keygen, or polka_keygen_from_seed for a public key half as long); a console seals 16-byte entries under
- * the public key (polka_seal); the desk opens them (polka_open). polka_encapsulate and polka_decapsulate are the scheme without an entry.
+ * the public key (polka_seal); the desk opens them (polka_open). A batch has up to 255 entries under one encapsulation (polka_seal_batch,
+ * polka_open_batch). polka_encapsulate and polka_decapsulate are the scheme without an entry.
  *
  * For all calls:
  * - A buffer is a pointer and its length in bytes. The pointer is not null, also where the length is 0.
- * - Every call looks at all lengths first, and refuses another length than named here.
- * - An output may overlap no other buffer of the call, input or output. Inputs may overlap each other.
+ * - Every call looks at all lengths first, and refuses another length than named here. How long a batch is hangs on its count of entries,
+ *   so the calls on batches have an order of their own, which stands with them.
+ * - An output, and a number that is lent to be written, may overlap no other buffer of the call, input or output. Inputs may overlap each
+ *   other.
  * - The answer is a code: POLKA_DONE, which is 0, exactly when the call is done, and else a refusal. polka_number gives its number, one of
  *   enum polka_answer. Under POLKA_KEY_OUT_OF_RANGE and POLKA_ENCAPSULATION_OUT_OF_RANGE the code also tells where the first word of
  *   59,393 or more stands (polka_record, polka_part, polka_index); every other code is its number. Later versions may add numbers, records
  *   and parts.
  * - The numbers that a call can answer stand with it, in the order of its checks.
- * - Under any answer but POLKA_DONE every output byte is as it was before the call.
- * - Under POLKA_DONE every byte of every output is written.
+ * - Under any answer but POLKA_DONE every output byte, and a lent number, is as it was before the call.
+ * - Under POLKA_DONE every byte of every output is written; of the output of polka_open_batch only the entries are, and every byte behind
+ *   them is as it was before the call.
  * - The library keeps no state: calls may run at the same time on several threads.
  * - It draws no random bytes: streams, seeds and noise come from the caller. They must be uniform and new for every call, and noise is
  *   secret.
@@ -37,11 +41,12 @@
  * length was POLKA_WRONG_LENGTH before.
  * 0.4: the answer is a code, and tells where a bad word stands. 4, POLKA_COEFFICIENT_OUT_OF_RANGE before, is POLKA_KEY_OUT_OF_RANGE and of
  * keys alone; encapsulations and sealed entries have POLKA_ENCAPSULATION_OUT_OF_RANGE, 11. Who compared the answer with 4, or used it as
- * a number, must use polka_number(answer). Comparisons with other numbers hold as they are. */
+ * a number, must use polka_number(answer). Comparisons with other numbers hold as they are.
+ * 0.5: adds batches, polka_seal_batch and polka_open_batch, and the number 12, POLKA_WRONG_COUNT, which they alone answer. */
 #define POLKA_VERSION_MAJOR 0
-#define POLKA_VERSION_MINOR 4
+#define POLKA_VERSION_MINOR 5
 #define POLKA_VERSION_PATCH 0
-#define POLKA_VERSION "0.4.0"
+#define POLKA_VERSION "0.5.0"
 
 /* The compiler warns where an answer is not looked at. */
 #if (defined(__cplusplus) && __cplusplus >= 201703L) || (defined(__STDC_VERSION__) && __STDC_VERSION__ >= 202311L)
@@ -68,33 +73,42 @@ extern "C" {
 #define POLKA_SEED_LENGTH 32                /* random bytes that stand for a: SHAKE128 makes the stream of them */
 #define POLKA_KEY_NOISE_LENGTH 512          /* random bytes for s, or for e */
 #define POLKA_TRIPLE_NOISE_LENGTH 1536      /* random bytes for a triple: of a sealing, or the dummy of an opening */
+#define POLKA_BATCH_ENTRIES_LENGTH 4080     /* the most entries of a batch in a row: what polka_open_batch is lent for them */
+
+/* A batch: "PLG", version 2, c1, c2, count of entries, body, tag (heat). It has 1 to POLKA_BATCH_MOST_ENTRIES entries; its length is
+ * 4,119 and 16 for each of them. */
+#define POLKA_BATCH_MOST_ENTRIES 255
+#define POLKA_BATCH_LENGTH(entries) (4119 + POLKA_ENTRY_LENGTH * (size_t)(entries))
 
 /* The stack that each call takes at most, in bytes, what memcpy and memset take aside. Measured, not proved: tests/stack.sh fails where a
  * call takes more. No call takes more for longer input. */
 #define POLKA_KEYGEN_STACK (59 * 1024)
 #define POLKA_KEYGEN_FROM_SEED_STACK (68 * 1024)
 #define POLKA_CHECK_SECRET_KEY_STACK (57 * 1024)
-#define POLKA_ENCAPSULATE_STACK (63 * 1024)
+#define POLKA_ENCAPSULATE_STACK (61 * 1024)
 #define POLKA_DECAPSULATE_STACK (101 * 1024)
-#define POLKA_SEAL_STACK (65 * 1024)
+#define POLKA_SEAL_STACK (61 * 1024)
 #define POLKA_OPEN_STACK (97 * 1024)
+#define POLKA_SEAL_BATCH_STACK (61 * 1024)
+#define POLKA_OPEN_BATCH_STACK (97 * 1024)
 #define POLKA_SHAKE128_STACK (2 * 1024)
 #define POLKA_SHAKE256_STACK (2 * 1024)
 
-/* The numbers of the answers, with document 01's word. 11 is of document 02, which has no word of its own for it. */
+/* The numbers of the answers, with document 01's word. 11 and 12 are of document 02, which has no words of its own for them. */
 enum polka_answer {
     POLKA_DONE = 0,
-    POLKA_WRONG_LENGTH = 1,               /* misfit: a buffer, input or output, hasn't its exact length */
-    POLKA_WRONG_MARK = 2,                 /* stranger: the mark is another */
-    POLKA_WRONG_VERSION = 3,              /* other issue: the version is not 1 */
-    POLKA_KEY_OUT_OF_RANGE = 4,           /* off the ring: a word of a key is 59,393 or more */
-    POLKA_INVALID_CODE = 5,               /* bad code: a two-bit code is 3 */
-    POLKA_NOT_INVERTIBLE = 6,             /* no unit: b has no inverse */
-    POLKA_KEY_MISMATCH = 7,               /* parted key: b / 5 - a s is not ternary (short) */
-    POLKA_STREAM_EXHAUSTED = 8,           /* dry stream: under 1,024 words of the stream are below 59,393 */
-    POLKA_DECAPSULATION_FAILURE = 9,      /* no triple: a step of the opening fails */
-    POLKA_TAG_MISMATCH = 10,              /* bad tag: the tag is not that of the body */
-    POLKA_ENCAPSULATION_OUT_OF_RANGE = 11 /* off the ring: a word of an encapsulation or of a sealed entry is 59,393 or more */
+    POLKA_WRONG_LENGTH = 1,                /* misfit: a buffer, input or output, hasn't its exact length */
+    POLKA_WRONG_MARK = 2,                  /* stranger: the mark is another */
+    POLKA_WRONG_VERSION = 3,               /* other issue: the version is not that of the record: 2 of a batch, 1 of every other */
+    POLKA_KEY_OUT_OF_RANGE = 4,            /* off the ring: a word of a key is 59,393 or more */
+    POLKA_INVALID_CODE = 5,                /* bad code: a two-bit code is 3 */
+    POLKA_NOT_INVERTIBLE = 6,              /* no unit: b has no inverse */
+    POLKA_KEY_MISMATCH = 7,                /* parted key: b / 5 - a s is not ternary (short) */
+    POLKA_STREAM_EXHAUSTED = 8,            /* dry stream: under 1,024 words of the stream are below 59,393 */
+    POLKA_DECAPSULATION_FAILURE = 9,       /* no triple: a step of the opening fails */
+    POLKA_TAG_MISMATCH = 10,               /* bad tag: the tag is not that of the body */
+    POLKA_ENCAPSULATION_OUT_OF_RANGE = 11, /* off the ring: a word of an encapsulation, sealed entry or batch is 59,393 or more */
+    POLKA_WRONG_COUNT = 12                 /* wrong count: a batch is of 1 to 255 entries */
 };
 
 /* The record that has the word. A key is judged before what is opened with it, so the key is named where both have one. */
@@ -102,7 +116,7 @@ enum polka_record_code {
     POLKA_RECORD_PUBLIC_KEY = 1,
     POLKA_RECORD_SEEDED_PUBLIC_KEY = 2,
     POLKA_RECORD_SECRET_KEY = 3,
-    POLKA_RECORD_SEALED_ENTRY = 4,
+    POLKA_RECORD_SEALED_ENTRY = 4, /* of one entry, or a batch */
     POLKA_RECORD_ENCAPSULATION = 5
 };
 
@@ -193,6 +207,28 @@ uint32_t polka_open(const uint8_t *secret_key, size_t secret_key_length,   /* PO
                     const uint8_t *sealed, size_t sealed_length,           /* POLKA_SEALED_ENTRY_LENGTH */
                     const uint8_t *dummy_noise, size_t dummy_noise_length, /* POLKA_TRIPLE_NOISE_LENGTH */
                     uint8_t *entry, size_t entry_length);                  /* POLKA_ENTRY_LENGTH, written */
+
+/* Seals 1 to 255 entries as one batch: 16 bytes an entry and one encapsulation for all of them, where polka_seal makes one for each. The
+ * noise is the whole secret of this one sealing. The public key is judged as by polka_seal.
+ * Answers 0; 1 where the entries are no multiple of 16 bytes; 12 where there are none of them, or more than 255; 1 for any other buffer;
+ * for the key 2, 3, 4, 8 (of a seed), 6. */
+POLKA_ANSWER
+uint32_t polka_seal_batch(const uint8_t *public_key, size_t public_key_length, /* POLKA_PUBLIC_KEY_LENGTH, or that of a seeded one */
+                          const uint8_t *noise, size_t noise_length,           /* POLKA_TRIPLE_NOISE_LENGTH */
+                          const uint8_t *entries, size_t entries_length,       /* POLKA_ENTRY_LENGTH times their count */
+                          uint8_t *batch, size_t batch_length);                /* POLKA_BATCH_LENGTH of their count, written */
+
+/* Opens a batch: all entries in their order, or none. It takes version 2 alone, and polka_open version 1 alone. Under 0 the count of
+ * entries, 1 to 255, is written to *count, and the entries to the first 16 * *count bytes of the output; the bytes behind them stay as
+ * they were. The dummy noise has no part in the answer.
+ * Answers 0; 1 where the batch has less than 4,119 bytes, or for any other buffer; for the key 2, 3, 4, 5, 6, 7; for the batch 2, 3; 12
+ * where its count is not 1 to 255; 1 where its length does not fit its count; 11; 9; 10. */
+POLKA_ANSWER
+uint32_t polka_open_batch(const uint8_t *secret_key, size_t secret_key_length,   /* POLKA_SECRET_KEY_LENGTH */
+                          const uint8_t *batch, size_t batch_length,             /* POLKA_BATCH_LENGTH of its count */
+                          const uint8_t *dummy_noise, size_t dummy_noise_length, /* POLKA_TRIPLE_NOISE_LENGTH */
+                          uint8_t *entries, size_t entries_length,               /* POLKA_BATCH_ENTRIES_LENGTH, written in part */
+                          uint32_t *count);                                      /* one number, written */
 
 /* The first output_length bytes of SHAKE128, or of SHAKE256, of the input. Both lengths are free; they refuse nothing. */
 void polka_shake128(const uint8_t *input, size_t input_length,

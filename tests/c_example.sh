@@ -42,9 +42,15 @@ expected='key check: 0
 seal "lane 4, 00:47.52": 0
 open: 0 "lane 4, 00:47.52"
 open with a changed tag: 10 "................"
-open with a damaged word: 11 "................" sealed entry, c2, word 17'
+open with a damaged word: 11 "................" sealed entry, c2, word 17
+seal a batch of 3: 0, 4167 bytes
+open the batch: 0, 3 entries
+   "lane 3, 00:48.10"
+   "lane 4, 00:47.52"
+   "lane 5, 00:47.90"
+open it without its last entry: 10, 0 entries'
 if [ "$(grep -v '^key generation: ' "$room/output")" = "$expected" ] && grep -qx 'key generation: 0' "$room/output"; then
-    echo "ok: sealed, opened, and refused with a changed tag and with a damaged word"
+    echo "ok: an entry and a batch sealed, opened, and refused when damaged"
 else
     echo "WRONG: the example printed something else"
     exit 1

@@ -11,10 +11,10 @@
 #include "location.h"
 #include "polka.h"
 
-/* Document 01's word for a number. A later library may know more of them. */
+/* The word for a number, as polka.h has it. A later library may know more of them. */
 static const char *word(uint32_t number) {
-    static const char *const words[] = {"done",    "misfit",     "stranger",   "other issue", "off the ring", "bad code",
-                                        "no unit", "parted key", "dry stream", "no triple",   "bad tag",      "off the ring"};
+    static const char *const words[] = {"done",       "misfit",     "stranger",  "other issue", "off the ring", "bad code",   "no unit",
+                                        "parted key", "dry stream", "no triple", "bad tag",     "off the ring", "wrong count"};
     return number < sizeof words / sizeof *words ? words[number] : "unknown";
 }
 

@@ -1,5 +1,5 @@
 /* Makes a key pair from the system's random bytes, seals an entry, opens it, and shows that a changed tag is refused, and a damaged word,
- * which is named. */
+ * which is named. Then it seals a heat as one batch, opens it, and shows that one entry less is refused. */
 #include <stdio.h>
 #include <stdlib.h>
 #include <string.h>
@@ -67,11 +67,84 @@ static uint32_t show_opening(const char *what, const uint8_t secret_key[POLKA_SE
     return answer;
 }
 
-int main(void) {
-    static uint8_t public_key[POLKA_PUBLIC_KEY_LENGTH], secret_key[POLKA_SECRET_KEY_LENGTH];
+/* Whether all went as it should. */
+static int one_entry(const uint8_t public_key[POLKA_PUBLIC_KEY_LENGTH], const uint8_t secret_key[POLKA_SECRET_KEY_LENGTH]) {
     static uint8_t sealed[POLKA_SEALED_ENTRY_LENGTH];
     const uint8_t entry[POLKA_ENTRY_LENGTH + 1] = "lane 4, 00:47.52";
     uint8_t opened[POLKA_ENTRY_LENGTH] = {0};
+
+    uint32_t answer = seal(public_key, entry, sealed);
+    printf("seal \"%s\": %u\n", (const char *)entry, (unsigned)polka_number(answer));
+    if (answer != POLKA_DONE) {
+        return 0;
+    }
+
+    answer = show_opening("open", secret_key, sealed, opened);
+    if (answer != POLKA_DONE || memcmp(entry, opened, POLKA_ENTRY_LENGTH) != 0) {
+        return 0;
+    }
+
+    sealed[POLKA_SEALED_ENTRY_LENGTH - 1] ^= 1;
+    memset(opened, '.', sizeof opened);
+    answer = show_opening("open with a changed tag", secret_key, sealed, opened);
+    if (answer != POLKA_TAG_MISMATCH) {
+        return 0;
+    }
+
+    /* word 17 of c2, behind mark, version and c1 */
+    memset(sealed + 5 + 2 * (1024 + 17), 0xff, 2);
+    answer = show_opening("open with a damaged word", secret_key, sealed, opened);
+    return polka_number(answer) == POLKA_ENCAPSULATION_OUT_OF_RANGE;
+}
+
+static uint32_t seal_batch(const uint8_t public_key[POLKA_PUBLIC_KEY_LENGTH], const uint8_t *entries, size_t count, uint8_t *batch) {
+    uint8_t noise[POLKA_TRIPLE_NOISE_LENGTH];
+    fill(noise, sizeof noise);
+    uint32_t answer = polka_seal_batch(public_key, POLKA_PUBLIC_KEY_LENGTH, noise, sizeof noise, entries, POLKA_ENTRY_LENGTH * count,
+                                       batch, POLKA_BATCH_LENGTH(count));
+    explicit_bzero(noise, sizeof noise);
+    return answer;
+}
+
+/* Prints the entries, a line each; there are none where the batch is refused. */
+static uint32_t show_batch(const char *what, const uint8_t secret_key[POLKA_SECRET_KEY_LENGTH], const uint8_t *batch, size_t length) {
+    static uint8_t entries[POLKA_BATCH_ENTRIES_LENGTH];
+    uint8_t dummy[POLKA_TRIPLE_NOISE_LENGTH];
+    uint32_t count = 0;
+    fill(dummy, sizeof dummy);
+    uint32_t answer = polka_open_batch(secret_key, POLKA_SECRET_KEY_LENGTH, batch, length, dummy, sizeof dummy, entries, sizeof entries,
+                                       &count);
+    explicit_bzero(dummy, sizeof dummy);
+    printf("%s: %u, %u entries\n", what, (unsigned)polka_number(answer), (unsigned)count);
+    for (uint32_t i = 0; i < count; i++) {
+        printf("   \"%.*s\"\n", POLKA_ENTRY_LENGTH, (const char *)entries + POLKA_ENTRY_LENGTH * i);
+    }
+    explicit_bzero(entries, sizeof entries);
+    return answer;
+}
+
+static int heat(const uint8_t public_key[POLKA_PUBLIC_KEY_LENGTH], const uint8_t secret_key[POLKA_SECRET_KEY_LENGTH]) {
+    enum { LANES = 3, COUNT_AT = 4101 };
+    static uint8_t batch[POLKA_BATCH_LENGTH(LANES)];
+    const char entries[] = "lane 3, 00:48.10"
+                           "lane 4, 00:47.52"
+                           "lane 5, 00:47.90";
+
+    uint32_t answer = seal_batch(public_key, (const uint8_t *)entries, LANES, batch);
+    printf("seal a batch of %d: %u, %zu bytes\n", LANES, (unsigned)polka_number(answer), sizeof batch);
+    if (answer != POLKA_DONE || show_batch("open the batch", secret_key, batch, sizeof batch) != POLKA_DONE) {
+        return 0;
+    }
+
+    /* the count fits again, and the tag stands behind the blocks that are left: only the tag tells */
+    batch[COUNT_AT] = LANES - 1;
+    memmove(batch + sizeof batch - 2 * POLKA_ENTRY_LENGTH, batch + sizeof batch - POLKA_ENTRY_LENGTH, POLKA_ENTRY_LENGTH);
+    answer = show_batch("open it without its last entry", secret_key, batch, POLKA_BATCH_LENGTH(LANES - 1));
+    return answer == POLKA_TAG_MISMATCH;
+}
+
+int main(void) {
+    static uint8_t public_key[POLKA_PUBLIC_KEY_LENGTH], secret_key[POLKA_SECRET_KEY_LENGTH];
 
     if (make_key(public_key, secret_key) != POLKA_DONE) {
         return 1;
@@ -81,27 +154,5 @@ int main(void) {
     if (answer != POLKA_DONE) {
         return 1;
     }
-
-    answer = seal(public_key, entry, sealed);
-    printf("seal \"%s\": %u\n", (const char *)entry, (unsigned)polka_number(answer));
-    if (answer != POLKA_DONE) {
-        return 1;
-    }
-
-    answer = show_opening("open", secret_key, sealed, opened);
-    if (answer != POLKA_DONE || memcmp(entry, opened, POLKA_ENTRY_LENGTH) != 0) {
-        return 1;
-    }
-
-    sealed[POLKA_SEALED_ENTRY_LENGTH - 1] ^= 1;
-    memset(opened, '.', sizeof opened);
-    answer = show_opening("open with a changed tag", secret_key, sealed, opened);
-    if (answer != POLKA_TAG_MISMATCH) {
-        return 1;
-    }
-
-    /* word 17 of c2, behind mark, version and c1 */
-    memset(sealed + 5 + 2 * (1024 + 17), 0xff, 2);
-    answer = show_opening("open with a damaged word", secret_key, sealed, opened);
-    return polka_number(answer) == POLKA_ENCAPSULATION_OUT_OF_RANGE ? 0 : 1;
+    return one_entry(public_key, secret_key) && heat(public_key, secret_key) ? 0 : 1;
 }

@@ -1,5 +1,6 @@
 //! The exports of the archive, over slices of any length. They answer a code: 0 exactly when done, else a number of documents 01 and 02,
-//! under 4 and 11 with the place of the bad word above it, as `include/polka.h` has it. Under any code but 0 no output byte has changed.
+//! under 4 and 11 with the place of the bad word above it, as `include/polka.h` has it. Under any code but 0 no output byte has changed,
+//! and no lent number.
 //! All other modules go through these: nothing else here is unsafe. Tests and benchmark, which lend any length, compile this file once
 //! more as their own.
 
@@ -69,13 +70,34 @@ mod archive {
             entry: *mut u8,
             entry_length: usize,
         ) -> u32;
+        pub fn polka_seal_batch(
+            public_key: *const u8,
+            public_key_length: usize,
+            noise: *const u8,
+            noise_length: usize,
+            entries: *const u8,
+            entries_length: usize,
+            batch: *mut u8,
+            batch_length: usize,
+        ) -> u32;
+        pub fn polka_open_batch(
+            secret_key: *const u8,
+            secret_key_length: usize,
+            batch: *const u8,
+            batch_length: usize,
+            dummy_noise: *const u8,
+            dummy_noise_length: usize,
+            entries: *mut u8,
+            entries_length: usize,
+            count: *mut u32,
+        ) -> u32;
         pub fn polka_shake128(input: *const u8, input_length: usize, out: *mut u8, out_length: usize);
         pub fn polka_shake256(input: *const u8, input_length: usize, out: *mut u8, out_length: usize);
     }
 }
 
-// SAFETY, for every call below: the pointers are those of slices with these lengths, and an output is borrowed for writing, so it
-// overlaps nothing. The library keeps no pointer and has no state.
+// SAFETY, for every call below: the pointers are those of slices with these lengths, and of a number; an output is borrowed for writing,
+// so it overlaps nothing. The library keeps no pointer and has no state.
 
 pub fn keygen(stream: &[u8], noise_s: &[u8], noise_e: &[u8], public_key: &mut [u8], secret_key: &mut [u8]) -> u32 {
     unsafe {
@@ -169,6 +191,37 @@ pub fn open(secret_key: &[u8], sealed: &[u8], dummy_noise: &[u8], entry: &mut [u
             dummy_noise.len(),
             entry.as_mut_ptr(),
             entry.len(),
+        )
+    }
+}
+
+pub fn seal_batch(public_key: &[u8], noise: &[u8], entries: &[u8], batch: &mut [u8]) -> u32 {
+    unsafe {
+        archive::polka_seal_batch(
+            public_key.as_ptr(),
+            public_key.len(),
+            noise.as_ptr(),
+            noise.len(),
+            entries.as_ptr(),
+            entries.len(),
+            batch.as_mut_ptr(),
+            batch.len(),
+        )
+    }
+}
+
+pub fn open_batch(secret_key: &[u8], batch: &[u8], dummy_noise: &[u8], entries: &mut [u8], count: &mut u32) -> u32 {
+    unsafe {
+        archive::polka_open_batch(
+            secret_key.as_ptr(),
+            secret_key.len(),
+            batch.as_ptr(),
+            batch.len(),
+            dummy_noise.as_ptr(),
+            dummy_noise.len(),
+            entries.as_mut_ptr(),
+            entries.len(),
+            count,
         )
     }
 }

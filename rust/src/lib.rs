@@ -1,9 +1,10 @@
 //! POLKA at 1,024 coefficients: safe Rust over the proved archive that `rt staticlib polka` writes.
 //!
 //! A desk makes a key pair ([`keygen`], or [`keygen_from_seed`] for a public key half as long); a console seals 16-byte entries under the
-//! public key ([`seal`]); the desk opens them ([`open`]). [`encapsulate`] and [`decapsulate`] are the scheme without an entry. Every call
-//! judges the records that it is lent, in the order that documents 01 and 02, the buyer's scope and change requests, fix, and answers
-//! [`Error`] at the first fault. Where that is a word off the ring, it has a [`Location`]: which record is damaged, and where.
+//! public key ([`seal`]); the desk opens them ([`open`]). A batch has up to 255 entries under one encapsulation ([`seal_batch`],
+//! [`open_batch`]). [`encapsulate`] and [`decapsulate`] are the scheme without an entry. Every call judges the records that it is lent, in
+//! the order that documents 01 and 02, the buyer's scope and change requests, fix, and answers [`Error`] at the first fault. Where that is a
+//! word off the ring, it has a [`Location`]: which record is damaged, and where.
 //!
 //! The library draws no random bytes. Streams, seeds and noise come from the caller and must be uniform and new each time. Noise is secret
 //! too: it is taken by value and cannot be copied, so that none is used twice by accident.
@@ -64,11 +65,15 @@ mod ffi;
 mod location;
 mod records;
 
+use alloc::vec::Vec;
+
+use records::Entries;
+
 pub use error::Error;
 pub use location::{Location, Part, Record};
 pub use records::{
-    Encapsulation, Entry, KeyNoise, PublicKey, PublicRecord, SealedEntry, SecretKey, Seed, SeededPublicKey, Triple, TripleNoise,
-    UniformStream,
+    Encapsulation, Entry, KeyNoise, PublicKey, PublicRecord, SealedBatch, SealedEntry, SecretKey, Seed, SeededPublicKey, Triple,
+    TripleNoise, UniformStream,
 };
 
 /// Makes a key pair. It tries once: [`Error::StreamExhausted`] and [`Error::NotInvertible`] call for new bytes.
@@ -167,6 +172,64 @@ pub fn open(secret_key: &SecretKey, sealed: &SealedEntry, dummy_noise: TripleNoi
     let mut entry = Entry::zeros();
     Error::judge(ffi::open(secret_key.as_bytes(), sealed.as_bytes(), dummy_noise.as_bytes(), entry.as_mut_bytes()))?;
     Ok(entry)
+}
+
+/// Seals 1 to 255 entries as one batch under a public key of either record. That takes 16 bytes an entry and one encapsulation for all of
+/// them, where [`seal`] takes one for each. The noise is the whole secret of this one sealing.
+///
+/// ```
+/// use std::fs::File;
+/// use std::io::Read;
+///
+/// use polka::{Entry, Error, KeyNoise, SealedBatch, Seed, TripleNoise};
+///
+/// let mut random = File::open("/dev/urandom")?;
+/// let (public_key, secret_key) = loop {
+///     let seed = Seed::filled_by(|bytes| random.read_exact(bytes))?;
+///     let noise_s = KeyNoise::filled_by(|bytes| random.read_exact(bytes))?;
+///     let noise_e = KeyNoise::filled_by(|bytes| random.read_exact(bytes))?;
+///     match polka::keygen_from_seed(&seed, noise_s, noise_e) {
+///         Err(Error::NotInvertible | Error::StreamExhausted) => continue,
+///         answer => break answer?,
+///     }
+/// };
+///
+/// let heat = [b"lane 3, 00:48.10", b"lane 4, 00:47.52", b"lane 5, 00:47.90"];
+/// let noise = TripleNoise::filled_by(|bytes| random.read_exact(bytes))?;
+/// let batch = polka::seal_batch(&public_key, noise, &heat.map(Entry::from))?;
+/// assert_eq!(batch.as_bytes().len(), SealedBatch::length(3));
+///
+/// // The desk gets all of them, in their order, or none.
+/// let dummy = TripleNoise::filled_by(|bytes| random.read_exact(bytes))?;
+/// let entries = polka::open_batch(&secret_key, &batch, dummy)?;
+/// assert!(entries.iter().map(Entry::as_bytes).eq(heat));
+///
+/// // None at all is no batch, and neither are 256.
+/// let noise = TripleNoise::filled_by(|bytes| random.read_exact(bytes))?;
+/// assert_eq!(polka::seal_batch(&public_key, noise, &[]).unwrap_err(), Error::WrongCount);
+/// # Ok::<(), Box<dyn std::error::Error>>(())
+/// ```
+pub fn seal_batch(public_key: &(impl PublicRecord + ?Sized), noise: TripleNoise, entries: &[Entry]) -> Result<SealedBatch, Error> {
+    let mut batch = SealedBatch::zeros(entries.len());
+    Error::judge(ffi::seal_batch(public_key.as_slice(), noise.as_bytes(), Entries::from(entries).as_bytes(), batch.as_mut_bytes()))?;
+    Ok(batch)
+}
+
+/// Opens a batch: all entries in their order, or none. A batch that was read is lent as its bytes, of whatever length. The dummy noise has
+/// no part in the answer. A sealed entry is no batch, not even of one: it is answered [`Error::WrongVersion`].
+///
+/// ```
+/// use polka::{Error, SecretKey, TripleNoise};
+///
+/// fn first_of(secret_key: &SecretKey, read: &[u8], dummy: TripleNoise) -> Result<[u8; 16], Error> {
+///     Ok(*polka::open_batch(secret_key, read, dummy)?[0].as_bytes())
+/// }
+/// ```
+pub fn open_batch(secret_key: &SecretKey, batch: &(impl AsRef<[u8]> + ?Sized), dummy_noise: TripleNoise) -> Result<Vec<Entry>, Error> {
+    let mut entries = Entries::zeros(SealedBatch::MOST_ENTRIES);
+    let mut count = 0;
+    Error::judge(ffi::open_batch(secret_key.as_bytes(), batch.as_ref(), dummy_noise.as_bytes(), entries.as_mut_bytes(), &mut count))?;
+    entries.first(count as usize)
 }
 
 /// Fills `out` with the first bytes of SHAKE128 of `input`; both may have any length.

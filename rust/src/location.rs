@@ -55,7 +55,7 @@ pub enum Record {
     SeededPublicKey,
     /// A [`SecretKey`](crate::SecretKey), of a and b.
     SecretKey,
-    /// A [`SealedEntry`](crate::SealedEntry), of c1 and c2.
+    /// A [`SealedEntry`](crate::SealedEntry) or a [`SealedBatch`](crate::SealedBatch), of c1 and c2.
     SealedEntry,
     /// An [`Encapsulation`](crate::Encapsulation), of c1 and c2.
     Encapsulation,
@@ -94,9 +94,9 @@ pub enum Part {
     A,
     /// b of a key.
     B,
-    /// c1 of an encapsulation, bare or in a sealed entry.
+    /// c1 of an encapsulation, bare or in a sealed entry or batch.
     C1,
-    /// c2 of an encapsulation, bare or in a sealed entry.
+    /// c2 of an encapsulation, bare or in a sealed entry or batch.
     C2,
 }
 

@@ -1,5 +1,8 @@
-//! The buffers of documents 01 and 02 as types that fix their lengths. They hold bytes of any content: each call judges what it is lent.
+//! The buffers of documents 01 and 02 as types that fix their lengths; a batch alone has one of many. They hold bytes of any content: each
+//! call judges what it is lent.
 use alloc::boxed::Box;
+use alloc::vec;
+use alloc::vec::Vec;
 use core::fmt;
 
 use crate::error::Error;
@@ -69,14 +72,19 @@ macro_rules! public_bytes {
 
         impl fmt::Debug for $name {
             fn fmt(&self, f: &mut fmt::Formatter<'_>) -> fmt::Result {
-                write!(f, concat!(stringify!($name), "("))?;
-                for byte in &self.0[..self.0.len().min(16)] {
-                    write!(f, "{byte:02x}")?;
-                }
-                write!(f, ".., {} bytes)", $length)
+                show(f, stringify!($name), &self.0[..])
             }
         }
     };
+}
+
+/// The first bytes, and how many there are.
+fn show(f: &mut fmt::Formatter<'_>, name: &str, bytes: &[u8]) -> fmt::Result {
+    write!(f, "{name}(")?;
+    for byte in bytes.iter().take(16) {
+        write!(f, "{byte:02x}")?;
+    }
+    write!(f, ".., {} bytes)", bytes.len())
 }
 
 /// Bytes that nobody else may see. They stay in one place on the heap, so that a move leaves no copy behind, and are overwritten when
@@ -158,8 +166,100 @@ secret_bytes! {
     TripleNoise, 1536
 }
 
-/// A public key as one of its two records, [`PublicKey`] or [`SeededPublicKey`]. [`seal`](crate::seal) and
-/// [`encapsulate`](crate::encapsulate) take either, also as a `dyn PublicRecord`, and give the same under both where a and b are the same.
+/// A batch, 1 to 255 entries under one encapsulation: "PLG", version 2, c1, c2, count, body, tag. Document 02 calls it a heat.
+///
+/// It holds bytes of any length, which [`open_batch`](crate::open_batch) judges.
+#[derive(Clone, PartialEq, Eq)]
+pub struct SealedBatch(Box<[u8]>);
+
+impl SealedBatch {
+    /// The most entries that a batch can have.
+    pub const MOST_ENTRIES: usize = 255;
+
+    /// How many bytes a batch of so many entries has: 16 for each, and 4,119.
+    pub const fn length(entries: usize) -> usize {
+        4119 + Entry::LENGTH * entries
+    }
+
+    /// Its bytes.
+    pub fn as_bytes(&self) -> &[u8] {
+        &self.0
+    }
+
+    pub(crate) fn zeros(entries: usize) -> Self {
+        vec![0; Self::length(entries)].into()
+    }
+
+    pub(crate) fn as_mut_bytes(&mut self) -> &mut [u8] {
+        &mut self.0
+    }
+}
+
+impl From<Vec<u8>> for SealedBatch {
+    fn from(bytes: Vec<u8>) -> Self {
+        SealedBatch(bytes.into())
+    }
+}
+
+impl From<&[u8]> for SealedBatch {
+    fn from(bytes: &[u8]) -> Self {
+        SealedBatch(bytes.into())
+    }
+}
+
+impl AsRef<[u8]> for SealedBatch {
+    fn as_ref(&self) -> &[u8] {
+        self.as_bytes()
+    }
+}
+
+impl fmt::Debug for SealedBatch {
+    fn fmt(&self, f: &mut fmt::Formatter<'_>) -> fmt::Result {
+        show(f, "SealedBatch", self.as_bytes())
+    }
+}
+
+/// The entries of a batch in a row, as the archive takes and writes them. They are overwritten when they go.
+pub(crate) struct Entries(Box<[u8]>);
+
+impl Entries {
+    pub(crate) fn zeros(count: usize) -> Self {
+        Entries(vec![0; Entry::LENGTH * count].into())
+    }
+
+    pub(crate) fn as_bytes(&self) -> &[u8] {
+        &self.0
+    }
+
+    pub(crate) fn as_mut_bytes(&mut self) -> &mut [u8] {
+        &mut self.0
+    }
+
+    /// The first of them, so many.
+    pub(crate) fn first(&self, count: usize) -> Result<Vec<Entry>, Error> {
+        self.0.chunks_exact(Entry::LENGTH).take(count).map(Entry::try_from).collect()
+    }
+}
+
+impl From<&[Entry]> for Entries {
+    fn from(entries: &[Entry]) -> Self {
+        let mut result = Entries::zeros(entries.len());
+        for (place, entry) in result.0.chunks_exact_mut(Entry::LENGTH).zip(entries) {
+            place.copy_from_slice(entry.as_bytes());
+        }
+        result
+    }
+}
+
+impl Drop for Entries {
+    fn drop(&mut self) {
+        ffi::wipe(&mut self.0);
+    }
+}
+
+/// A public key as one of its two records, [`PublicKey`] or [`SeededPublicKey`]. [`seal`](crate::seal), [`seal_batch`](crate::seal_batch)
+/// and [`encapsulate`](crate::encapsulate) take either, also as a `dyn PublicRecord`, and give the same under both where a and b are the
+/// same.
 pub trait PublicRecord: sealed::Sealed {
     /// Its bytes; their count tells the record.
     fn as_slice(&self) -> &[u8];

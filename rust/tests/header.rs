@@ -8,8 +8,8 @@ use std::process::Command;
 
 use common::random::Random;
 use polka::{
-    Encapsulation, Entry, Error, KeyNoise, Part, PublicKey, Record, SealedEntry, SecretKey, Seed, SeededPublicKey, Triple, TripleNoise,
-    UniformStream,
+    Encapsulation, Entry, Error, KeyNoise, Part, PublicKey, Record, SealedBatch, SealedEntry, SecretKey, Seed, SeededPublicKey, Triple,
+    TripleNoise, UniformStream,
 };
 
 const HEADER: &str = include_str!("../../include/polka.h");
@@ -39,12 +39,15 @@ fn lengths() {
         ("SEED", Seed::LENGTH),
         ("KEY_NOISE", KeyNoise::LENGTH),
         ("TRIPLE_NOISE", TripleNoise::LENGTH),
+        ("BATCH_ENTRIES", SealedBatch::MOST_ENTRIES * Entry::LENGTH),
     ];
     for (name, length) in all {
         assert_eq!(value(&format!("POLKA_{name}_LENGTH")), length.to_string());
     }
-    let defined = HEADER.lines().filter(|line| line.starts_with("#define ") && line.contains("_LENGTH "));
+    let names = HEADER.lines().filter_map(|line| line.strip_prefix("#define ")?.split(' ').next());
+    let defined = names.filter(|name| name.ends_with("_LENGTH"));
     assert_eq!(defined.count(), all.len());
+    assert_eq!(value("POLKA_BATCH_MOST_ENTRIES"), SealedBatch::MOST_ENTRIES.to_string());
 }
 
 /// WrongLength is WRONG_LENGTH; what a case carries is left out.
@@ -76,7 +79,7 @@ fn located(number: u32, record: u32, part: u32, index: u32) -> u32 {
 #[test]
 fn numbers_and_words() {
     assert_eq!(value("POLKA_DONE"), "0");
-    for number in 1..=11 {
+    for number in 1..=12 {
         // 4 and 11 come with a bad word
         let code = if [4, 11].contains(&number) { located(number, 1, 1, 0) } else { number };
         let error = Error::from_code(code).unwrap();
@@ -84,7 +87,7 @@ fn numbers_and_words() {
         assert_eq!(c_value("", &error), number);
         assert!(HEADER.contains(&format!("/* {}: ", error.word())), "{}", error.word());
     }
-    assert_eq!(named("POLKA_") - named("POLKA_RECORD_") - named("POLKA_PART_"), 12);
+    assert_eq!(named("POLKA_") - named("POLKA_RECORD_") - named("POLKA_PART_"), 13);
 }
 
 /// Every record with every part, at both ends of the index.
@@ -109,7 +112,7 @@ fn records_and_parts() {
 }
 
 /// A line for each code: its number, record, part, index and place by the header's functions.
-const FIELDS: &str = r#"
+const FIELDS_OF_CODES: &str = r#"
 #include <stdio.h>
 #include <stdlib.h>
 
@@ -125,16 +128,34 @@ int main(int count, char **codes) {
 }
 "#;
 
-/// What that program prints.
-fn fields(codes: &[u32]) -> String {
+/// A line for each count of entries: how long the batch is by the header.
+const LENGTHS_OF_BATCHES: &str = r#"
+#include <stdio.h>
+#include <stdlib.h>
+
+#include "polka.h"
+
+static const unsigned char largest[POLKA_BATCH_LENGTH(POLKA_BATCH_MOST_ENTRIES)];
+
+int main(int count, char **counts) {
+    for (int i = 1; i < count; i++) {
+        printf("%zu\n", POLKA_BATCH_LENGTH(strtoul(counts[i], NULL, 10)));
+    }
+    printf("%zu\n", sizeof largest);
+    return 0;
+}
+"#;
+
+/// What this program prints for these numbers.
+fn printed(name: &str, text: &str, numbers: &[u32]) -> String {
     let room = Path::new(env!("CARGO_TARGET_TMPDIR"));
-    let (source, program) = (room.join("fields.c"), room.join("fields"));
-    fs::write(&source, FIELDS).unwrap();
+    let (source, program) = (room.join(format!("{name}.c")), room.join(name));
+    fs::write(&source, text).unwrap();
     let include = Path::new(env!("CARGO_MANIFEST_DIR")).join("../include");
     let compiler = std::env::var_os("CC").unwrap_or("cc".into());
     let compiled = Command::new(compiler).arg("-I").arg(include).arg(source).arg("-o").arg(&program).status();
     assert!(compiled.expect("a C compiler").success());
-    let output = Command::new(program).args(codes.iter().map(u32::to_string)).output().unwrap();
+    let output = Command::new(program).args(numbers.iter().map(u32::to_string)).output().unwrap();
     String::from_utf8(output.stdout).unwrap()
 }
 
@@ -142,9 +163,17 @@ fn fields(codes: &[u32]) -> String {
 #[test]
 fn fields_of_a_code() {
     let mut random = Random::new(701);
-    let codes: Vec<u32> = (0..=11).chain(located_codes()).chain((0..1000).map(|_| random.next() as u32)).collect();
+    let codes: Vec<u32> = (0..=12).chain(located_codes()).chain((0..1000).map(|_| random.next() as u32)).collect();
     let line = |code: &u32| format!("{} {} {} {} {}\n", code & 0xff, code >> 12 & 0xf, code >> 8 & 0xf, code >> 16 & 0xfff, code >> 28);
-    assert_eq!(fields(&codes), codes.iter().map(line).collect::<String>());
+    assert_eq!(printed("fields", FIELDS_OF_CODES, &codes), codes.iter().map(line).collect::<String>());
+}
+
+#[test]
+fn lengths_of_batches() {
+    let counts: Vec<u32> = (0..=SealedBatch::MOST_ENTRIES as u32 + 1).collect();
+    let lengths = counts.iter().map(|&count| SealedBatch::length(count as usize));
+    let lines = lengths.chain([SealedBatch::length(SealedBatch::MOST_ENTRIES)]).map(|length| format!("{length}\n"));
+    assert_eq!(printed("lengths", LENGTHS_OF_BATCHES, &counts), lines.collect::<String>());
 }
 
 #[test]

@@ -12,13 +12,13 @@ fn compare(count: &mut Count, case: &Case) {
     count.add(&case.name, &run(&REFERENCE, case), &run(&LIBRARY, case));
 }
 
-/// New keys, noise, entries and dummies: the bytes written are the same.
+/// New keys, noise, entries and dummies, and a batch of every size: the bytes written are the same.
 #[test]
 fn sound_cases() {
     let mut random = Random::new(301);
     let mut count = Count::new("beside the reference, sound");
-    for _ in 0..250 {
-        let sound = Sound::new(&mut random);
+    for entries in 1..=255 {
+        let sound = Sound::with_entries(&mut random, entries);
         for case in sound.all() {
             compare(&mut count, case);
         }

@@ -16,10 +16,15 @@ fn compare(count: &mut Count, case: &Case, code: Option<u32>) {
 }
 
 fn each_alone(what: &'static str, pick: fn(&Sound) -> &Case, seed: u64) {
+    each_alone_of(what, &[1, 2], pick, seed);
+}
+
+/// Each kind of damage by itself, under a key for each size of the batch.
+fn each_alone_of(what: &'static str, sizes: &[usize], pick: fn(&Sound) -> &Case, seed: u64) {
     let mut random = Random::new(seed);
     let mut count = Count::new(what);
-    for _ in 0..2 {
-        let sound = Sound::new(&mut random);
+    for &entries in sizes {
+        let sound = Sound::with_entries(&mut random, entries);
         let case = pick(&sound);
         compare(&mut count, case, Some(0));
         for damage in damage::of(case, &mut random) {
@@ -74,7 +79,84 @@ fn open() {
     each_alone("damaged, open", |sound| &sound.open, 106);
 }
 
-/// Two faults at once: the order of document 01 decides.
+/// Few and many entries, with both ends.
+const SIZES: [usize; 5] = [1, 2, 3, 100, 255];
+
+#[test]
+fn seal_batch() {
+    each_alone_of("damaged, seal_batch", &SIZES, |sound| &sound.seal_batch, 111);
+}
+
+#[test]
+fn seal_batch_seeded() {
+    each_alone_of("damaged, seal_batch under a seeded key", &SIZES, |sound| &sound.seal_batch_seeded, 112);
+}
+
+#[test]
+fn open_batch() {
+    each_alone_of("damaged, open_batch", &SIZES, |sound| &sound.open_batch, 113);
+}
+
+/// Every two checks of the calls on batches, and each with all that come after it: the first one is told.
+#[test]
+fn order_of_checks() {
+    let mut random = Random::new(114);
+    let mut count = Count::new("damaged, the order of checks on batches");
+    for entries in SIZES {
+        let sound = Sound::with_entries(&mut random, entries);
+        for case in [&sound.seal_batch, &sound.seal_batch_seeded, &sound.open_batch] {
+            let faults = damage::in_order(case);
+            for (i, first) in faults.iter().enumerate() {
+                let later = &faults[i + 1..];
+                compare(&mut count, &first.apply(case), first.code);
+                for second in later {
+                    compare(&mut count, &second.apply(&first.apply(case)), first.code);
+                    compare(&mut count, &first.apply(&second.apply(case)), first.code);
+                }
+                compare(&mut count, &later.iter().fold(first.apply(case), |case, fault| fault.apply(&case)), first.code);
+            }
+        }
+    }
+    count.finish();
+}
+
+/// Each opening takes one version: a batch at the opening of an entry and an entry at that of a batch, whole, cut or stretched to the
+/// other's length, and under the other's version.
+#[test]
+fn the_other_record() {
+    let mut random = Random::new(115);
+    let mut count = Count::new("damaged, a batch as an entry and an entry as a batch");
+    for entries in SIZES {
+        let sound = Sound::with_entries(&mut random, entries);
+        let mut lend = |case: &Case, record: &[u8], code: Option<u32>| {
+            let mut case = case.clone();
+            case.name = format!("{}, {} bytes of version {}", case.name, record.len(), record[3]);
+            case.inputs[1] = record.to_vec();
+            compare(&mut count, &case, code);
+        };
+        let with = |record: &[u8], version: u8, length: usize| {
+            let mut other = record.to_vec();
+            other.resize(length, 0);
+            other[3] = version;
+            other
+        };
+        let (entry, batch) = (&sound.open.inputs[1], &sound.open_batch.inputs[1]);
+        lend(&sound.open, batch, Some(1));
+        lend(&sound.open, &with(batch, 1, batch.len()), Some(1));
+        lend(&sound.open, &with(batch, 2, 4133), Some(3));
+        // c1 and c2 are those of another entry, so that there is a triple
+        lend(&sound.open, &with(batch, 1, 4133), Some(10));
+        lend(&sound.open_batch, entry, Some(3));
+        lend(&sound.open_batch, &with(entry, 1, batch.len()), Some(3));
+        // the count is the first two bytes of a body
+        lend(&sound.open_batch, &with(entry, 2, 4133), None);
+        lend(&sound.open_batch, &with(entry, 2, batch.len()), None);
+        lend(&sound.open_batch, &with(batch, 1, batch.len()), Some(3));
+    }
+    count.finish();
+}
+
+/// Two faults at once: the order of documents 01 and 02 decides.
 #[test]
 fn in_pairs() {
     let mut random = Random::new(107);

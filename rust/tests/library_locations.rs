@@ -169,7 +169,7 @@ fn every_word() {
             for value in [Q, 65_535] {
                 let case = damaged(case, &[(part, index, value)]);
                 let actual = run(&LIBRARY, &case);
-                count.add(&case.name, &Outcome { code: part.code(index), outputs: actual.outputs.clone() }, &actual);
+                count.add(&case.name, &Outcome { code: part.code(index), ..actual.clone() }, &actual);
             }
         }
     });

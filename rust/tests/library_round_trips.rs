@@ -3,7 +3,7 @@ mod common;
 
 use common::cases::Count;
 use common::random::Random;
-use polka::{Entry, Error, KeyNoise, PublicKey, SecretKey, Triple, TripleNoise, UniformStream};
+use polka::{Entry, Error, KeyNoise, PublicKey, SealedBatch, SecretKey, SeededPublicKey, Triple, TripleNoise, UniformStream};
 
 /// A key pair, and how many tries were refused before it.
 fn new_key(random: &mut Random) -> (PublicKey, SecretKey, usize) {
@@ -111,6 +111,74 @@ fn seeded_public_keys() {
     triples.finish();
 }
 
+/// A key from a seed, with both of its public records.
+fn new_seeded_key(random: &mut Random) -> (PublicKey, SeededPublicKey, SecretKey) {
+    loop {
+        match polka::keygen_from_seed(&random.array().into(), KeyNoise::from(&random.array()), KeyNoise::from(&random.array())) {
+            Ok((seeded, secret_key)) => {
+                let long = [b"PDK\x01\x00", &secret_key.as_bytes()[5..4101]].concat();
+                return (PublicKey::try_from(&long[..]).unwrap(), seeded, secret_key);
+            }
+            Err(Error::NotInvertible) => continue,
+            Err(error) => panic!("key generation from a seed: {error}"),
+        }
+    }
+}
+
+fn are(opened: Result<Vec<Entry>, Error>, entries: &[Entry]) -> bool {
+    opened.is_ok_and(|opened| opened.iter().map(Entry::as_bytes).eq(entries.iter().map(Entry::as_bytes)))
+}
+
+/// Batches of every size, under both public records and several keys and dummies.
+#[test]
+fn batches() {
+    const KEYS: usize = 8;
+    let mut random = Random::new(205);
+    let mut count = Count::new("round trips, batches of 1 to 255 entries under both records");
+    for key in 0..KEYS {
+        let (long, seeded, secret_key) = new_seeded_key(&mut random);
+        for entries in 1..=SealedBatch::MOST_ENTRIES {
+            let (sealing, all): ([u8; 1536], Vec<Entry>) = (random.array(), (0..entries).map(|_| Entry::from(&random.array())).collect());
+            let batch = polka::seal_batch(&long, TripleNoise::from(&sealing), &all).unwrap();
+            let same = polka::seal_batch(&seeded, TripleNoise::from(&sealing), &all).unwrap() == batch;
+            let opened = (0..2).all(|_| are(polka::open_batch(&secret_key, &batch, noise(&mut random)), &all));
+            let fits = batch.as_bytes().len() == SealedBatch::length(entries);
+            count.agree(&format!("key {key}, {entries} entries"), same && opened && fits);
+        }
+    }
+    count.finish();
+}
+
+/// One sealing's noise has one keystream, however many entries there are: the body of an entry alone is the first block of each batch's, and
+/// the body of a batch starts that of a longer one. Their tags differ.
+#[test]
+fn batches_and_entries_of_one_sealing() {
+    let mut random = Random::new(206);
+    let mut count = Count::new("round trips, bodies of batches and entries from the same noise");
+    for key in 0..4 {
+        let (public_key, _, _) = new_key(&mut random);
+        let sealing: [u8; 1536] = random.array();
+        let all: Vec<Entry> = (0..SealedBatch::MOST_ENTRIES).map(|_| Entry::from(&random.array())).collect();
+        let sealed = polka::seal(&public_key, TripleNoise::from(&sealing), &all[0]).unwrap();
+        let longest = polka::seal_batch(&public_key, TripleNoise::from(&sealing), &all).unwrap();
+        let mut tags = vec![sealed.as_bytes()[4117..].to_vec()];
+        for entries in 1..=all.len() {
+            let batch = polka::seal_batch(&public_key, TripleNoise::from(&sealing), &all[..entries]).unwrap();
+            let (head, tag) = batch.as_bytes().split_at(batch.as_bytes().len() - 16);
+            let (front, body) = head.split_at(4103);
+            let same = front[5..4101] == sealed.as_bytes()[5..4101]
+                && body[..16] == sealed.as_bytes()[4101..4117]
+                && longest.as_bytes()[4103..].starts_with(body);
+            count.agree(&format!("key {key}, {entries} entries"), same && front[4101..] == [entries as u8, 0]);
+            tags.push(tag.to_vec());
+        }
+        tags.sort();
+        tags.dedup();
+        count.agree(&format!("key {key}, tags"), tags.len() == all.len() + 1);
+    }
+    count.finish();
+}
+
 /// The dummy has no part in the answer, whether it is the entry, the triple or a refusal.
 #[test]
 fn other_dummies_give_the_same_answer() {
@@ -122,24 +190,37 @@ fn other_dummies_give_the_same_answer() {
         let (public_key, secret_key, _) = new_key(&mut random);
         let mut sealed = *polka::seal(&public_key, noise(&mut random), &Entry::from(&random.array())).unwrap().as_bytes();
         let mut encapsulation = *polka::encapsulate(&public_key, &triple(&mut random)).unwrap().as_bytes();
+        let entries: Vec<Entry> = (0..1 + random.below(255)).map(|_| Entry::from(&random.array())).collect();
+        let mut batch = polka::seal_batch(&public_key, noise(&mut random), &entries).unwrap().as_bytes().to_vec();
         // a quarter sound, a quarter with another c, a quarter with a bad word, a quarter with another tag
         let place = random.below(2048);
         match key % 4 {
             0 => {}
             1 => {
                 sealed[5 + 2 * place] ^= 1;
+                batch[5 + 2 * place] ^= 1;
                 encapsulation[2 * place] ^= 1;
             }
             2 => {
                 sealed[5 + 2 * place..][..2].fill(0xff);
+                batch[5 + 2 * place..][..2].fill(0xff);
                 encapsulation[2 * place..][..2].fill(0xff);
             }
-            _ => sealed[4117 + random.below(16)] ^= 0x10,
+            _ => {
+                sealed[4117 + random.below(16)] ^= 0x10;
+                batch[4103 + random.below(16)] ^= 0x10;
+            }
         }
-        let dummies: Vec<TripleNoise> = edges.iter().map(TripleNoise::from).chain((0..8).map(|_| noise(&mut random))).collect();
+        let mut dummies =
+            || -> Vec<TripleNoise> { edges.iter().map(TripleNoise::from).chain((0..8).map(|_| noise(&mut random))).collect() };
         let answers: Vec<Result<[u8; 16], Error>> =
-            dummies.into_iter().map(|dummy| polka::open(&secret_key, &sealed.into(), dummy).map(|entry| *entry.as_bytes())).collect();
+            dummies().into_iter().map(|dummy| polka::open(&secret_key, &sealed.into(), dummy).map(|entry| *entry.as_bytes())).collect();
         count.agree(&format!("key {key}, open"), answers.iter().all(|answer| *answer == answers[0]));
+        let answers: Vec<Result<Vec<[u8; 16]>, Error>> = dummies()
+            .into_iter()
+            .map(|dummy| polka::open_batch(&secret_key, &batch, dummy).map(|all| all.iter().map(|entry| *entry.as_bytes()).collect()))
+            .collect();
+        count.agree(&format!("key {key}, open_batch"), answers.iter().all(|answer| *answer == answers[0]));
         let dummies: Vec<Triple> = coded_edges.iter().map(Triple::from).chain((0..8).map(|_| triple(&mut random))).collect();
         let answers: Vec<Result<[u8; 768], Error>> = dummies
             .into_iter()

@@ -6,7 +6,7 @@ use std::thread;
 
 use common::answers;
 use common::random::Random;
-use polka::{Entry, Error, KeyNoise, PublicKey, SealedEntry, Seed, TripleNoise};
+use polka::{Entry, Error, KeyNoise, PublicKey, SealedBatch, SealedEntry, Seed, TripleNoise};
 
 /// What an entry at this place of the log answers: every tenth has another tag, and every tenth a bad word.
 fn refusal(place: usize) -> Option<Error> {
@@ -21,6 +21,12 @@ fn refusal(place: usize) -> Option<Error> {
 /// Among the 2,048 of c1 and c2.
 fn bad_word(place: usize) -> usize {
     4 * place
+}
+
+/// The entries of this record of the log and of those before it, in a batch.
+fn entries_until(log: &[([u8; 16], SealedEntry)], place: usize) -> Vec<Entry> {
+    let start = (place + 1).saturating_sub(SealedBatch::MOST_ENTRIES);
+    log[start..=place].iter().map(|(bytes, _)| Entry::from(bytes)).collect()
 }
 
 #[test]
@@ -66,7 +72,13 @@ fn two_threads_open_at_once() {
                         let noise: [u8; 1536] = random.array();
                         let sealed = polka::seal(public_key, TripleNoise::from(&noise), &Entry::from(bytes));
                         let same = sealed == polka::seal(seeded_key, TripleNoise::from(&noise), &Entry::from(bytes));
-                        wrong += usize::from(!right || !same || sealed.is_err());
+                        // and a batch there and back, of another size each time
+                        let batch = polka::seal_batch(seeded_key, TripleNoise::from(&noise), &entries_until(entries, i)).unwrap();
+                        let opened = polka::open_batch(secret_key, &batch, TripleNoise::from(&random.array()));
+                        let whole = opened.is_ok_and(|opened| {
+                            opened.iter().map(Entry::as_bytes).eq(entries_until(entries, i).iter().map(Entry::as_bytes))
+                        });
+                        wrong += usize::from(!right || !same || sealed.is_err() || !whole);
                     }
                     wrong
                 })

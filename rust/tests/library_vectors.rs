@@ -47,6 +47,16 @@ fn open_sealed_before() {
 }
 
 #[test]
+fn seal_batch() {
+    vectors::compare_seal_batch(&LIBRARY);
+}
+
+#[test]
+fn open_batch() {
+    vectors::compare_open_batch(&LIBRARY);
+}
+
+#[test]
 fn shake128() {
     vectors::compare_shake128(&LIBRARY);
 }

@@ -15,6 +15,8 @@ const FAST: Calls = Calls {
     decapsulate: fast::decapsulate,
     seal: fast::seal,
     open: fast::open,
+    seal_batch: fast::seal_batch,
+    open_batch: fast::open_batch,
     shake128: fast::shake128,
     shake256: fast::shake256,
 };
@@ -29,6 +31,8 @@ fn every_call_on_every_vector() {
     vectors::compare_seal(&FAST);
     vectors::compare_open(&FAST);
     vectors::compare_open_sealed_before(&FAST);
+    vectors::compare_seal_batch(&FAST);
+    vectors::compare_open_batch(&FAST);
     vectors::compare_shake128(&FAST);
     vectors::compare_shake256(&FAST);
     vectors::compare_desk(&FAST);

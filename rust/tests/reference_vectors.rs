@@ -46,6 +46,16 @@ fn open_sealed_before() {
 }
 
 #[test]
+fn seal_batch() {
+    vectors::compare_seal_batch(&REFERENCE);
+}
+
+#[test]
+fn open_batch() {
+    vectors::compare_open_batch(&REFERENCE);
+}
+
+#[test]
 fn shake128() {
     vectors::compare_shake128(&REFERENCE);
 }

@@ -3,8 +3,8 @@ mod common;
 
 use common::answers;
 use polka::{
-    Encapsulation, Entry, Error, KeyNoise, Part, PublicKey, PublicRecord, Record, SealedEntry, SecretKey, Seed, SeededPublicKey, Triple,
-    TripleNoise,
+    Encapsulation, Entry, Error, KeyNoise, Part, PublicKey, PublicRecord, Record, SealedBatch, SealedEntry, SecretKey, Seed,
+    SeededPublicKey, Triple, TripleNoise,
 };
 
 /// The refusal with this number and this location in the vectors' words.
@@ -14,7 +14,7 @@ fn error(number: u32, location: &str) -> Error {
 
 #[test]
 fn refusals_know_their_numbers_and_words() {
-    for number in [1, 2, 3, 5, 6, 7, 8, 9, 10] {
+    for number in [1, 2, 3, 5, 6, 7, 8, 9, 10, 12] {
         let error = error(number, "");
         assert_eq!((error.number(), error.location()), (number, None));
         assert_eq!(error.to_string(), format!("{} ({number}, {})", error.meaning(), error.word()));
@@ -53,7 +53,7 @@ fn a_bad_word_has_a_location() {
 #[test]
 fn unknown_codes_are_kept() {
     let bad_word = answers::code(4, "secret_key b 17");
-    let others = [4, 11, 12, 255, 0x100, 0x101, 0x0001_0000, bad_word & !0xf00, bad_word & !0xf000, bad_word | 0x100, bad_word | 0x7000];
+    let others = [4, 11, 13, 255, 0x100, 0x101, 0x0001_0000, bad_word & !0xf00, bad_word & !0xf000, bad_word | 0x100, bad_word | 0x7000];
     for code in others.into_iter().chain([bad_word + 0x0400_0000, bad_word | 0x1000_0000, bad_word + 1, u32::MAX]) {
         let error = Error::from_code(code).unwrap();
         assert_eq!((error, error.number(), error.location()), (Error::Unknown(code), code & 0xff, None));
@@ -86,6 +86,8 @@ fn debug_shows_no_secret() {
     assert_eq!(format!("{:?}", TripleNoise::from(&[0xab; 1536])), "TripleNoise(1536 secret bytes)");
     assert!(format!("{:?}", PublicKey::from([0xab; 4101])).starts_with("PublicKey(abab"));
     assert!(format!("{:?}", SeededPublicKey::from([0xab; 2085])).starts_with("SeededPublicKey(abab"));
+    assert_eq!(format!("{:?}", SealedBatch::from(vec![0xab; 4135])), format!("SealedBatch({}.., 4135 bytes)", "ab".repeat(16)));
+    assert_eq!(format!("{:?}", SealedBatch::from(&[0xab][..])), "SealedBatch(ab.., 1 bytes)");
 }
 
 #[test]
@@ -94,9 +96,83 @@ fn refusals_come_back_as_errors() {
     assert_eq!(polka::check_secret_key(&zeros), Err(Error::WrongMark));
     let sealed = SealedEntry::from([0; 4133]);
     assert_eq!(polka::open(&zeros, &sealed, TripleNoise::from(&[0; 1536])).unwrap_err(), Error::WrongMark);
+    assert_eq!(polka::open_batch(&zeros, &[0; 4135], TripleNoise::from(&[0; 1536])).unwrap_err(), Error::WrongMark);
     // s and e are 0, and so is b
     let (noise_s, noise_e) = (KeyNoise::from(&[0; 512]), KeyNoise::from(&[0; 512]));
     assert_eq!(polka::keygen_from_seed(&Seed::from([0; 32]), noise_s, noise_e).unwrap_err(), Error::NotInvertible);
+}
+
+/// a = 0, b = 5 and s = 0.
+fn sound_key() -> SecretKey {
+    let mut key = [0; 4357];
+    key[..5].copy_from_slice(b"SDK\x01\x00");
+    key[2053] = 5;
+    SecretKey::from(&key)
+}
+
+/// The public key of that one, with which sealing and opening go round.
+fn sound_public_key() -> PublicKey {
+    PublicKey::try_from(&[b"PDK\x01\x00", &sound_key().as_bytes()[5..4101]].concat()[..]).unwrap()
+}
+
+/// No entries and more than 255 are no batch, for sealing and for opening.
+#[test]
+fn counts_of_entries() {
+    let entries: Vec<Entry> = (0..300u16).map(|i| Entry::from(&[i as u8; 16])).collect();
+    let noise = || TripleNoise::from(&[0x21; 1536]);
+    for count in [0, 256, 257, 300] {
+        assert_eq!(polka::seal_batch(&sound_public_key(), noise(), &entries[..count]).unwrap_err(), Error::WrongCount);
+    }
+    for count in [1, 2, 254, 255] {
+        let batch = polka::seal_batch(&sound_public_key(), noise(), &entries[..count]).unwrap();
+        assert_eq!(batch.as_bytes().len(), SealedBatch::length(count));
+        assert_eq!(batch.as_bytes()[..5], *b"PLG\x02\x00");
+        let opened = polka::open_batch(&sound_key(), &batch, noise()).unwrap();
+        assert!(opened.iter().map(Entry::as_bytes).eq(entries[..count].iter().map(Entry::as_bytes)));
+        for other in [0, 256, 256 + count] {
+            let mut changed = batch.as_bytes().to_vec();
+            changed[4101..4103].copy_from_slice(&(other as u16).to_le_bytes());
+            assert_eq!(polka::open_batch(&sound_key(), &changed, noise()).unwrap_err(), Error::WrongCount);
+        }
+    }
+}
+
+/// As a batch, as a slice, as a vector and as an array, and every refusal that bytes alone can bring about.
+#[test]
+fn a_batch_is_lent_as_bytes() {
+    let noise = || TripleNoise::from(&[0x21; 1536]);
+    let batch = polka::seal_batch(&sound_public_key(), noise(), &[b"lane 4, 00:47.52", b"lane 5, 00:47.90"].map(Entry::from)).unwrap();
+    let bytes = batch.as_bytes();
+    assert_eq!(SealedBatch::from(bytes), batch);
+    assert_eq!(SealedBatch::from(bytes.to_vec()), batch);
+    let array: [u8; SealedBatch::length(2)] = bytes.try_into().unwrap();
+    for opened in [
+        polka::open_batch(&sound_key(), &batch, noise()),
+        polka::open_batch(&sound_key(), bytes, noise()),
+        polka::open_batch(&sound_key(), &bytes.to_vec(), noise()),
+        polka::open_batch(&sound_key(), &array, noise()),
+    ] {
+        assert_eq!(opened.unwrap()[1].as_bytes(), b"lane 5, 00:47.90");
+    }
+    let refusal = |edit: fn(&mut Vec<u8>)| {
+        let mut changed = bytes.to_vec();
+        edit(&mut changed);
+        polka::open_batch(&sound_key(), &changed, noise()).unwrap_err()
+    };
+    assert_eq!(refusal(|batch| batch.clear()), Error::WrongLength);
+    assert_eq!(refusal(|batch| batch.truncate(4118)), Error::WrongLength);
+    assert_eq!(refusal(|batch| batch.push(0)), Error::WrongLength);
+    assert_eq!(refusal(|batch| batch[0] = b'p'), Error::WrongMark);
+    assert_eq!(refusal(|batch| batch[3] = 1), Error::WrongVersion);
+    assert_eq!(refusal(|batch| batch[4101] = 0), Error::WrongCount);
+    assert_eq!(refusal(|batch| batch[4101] = 3), Error::WrongLength);
+    assert_eq!(refusal(|batch| batch[2053 + 34..][..2].fill(0xff)), error(11, "sealed_entry c2 17"));
+    assert_eq!(refusal(|batch| batch[5] ^= 4), Error::DecapsulationFailure);
+    assert_eq!(refusal(|batch| batch[4103] ^= 1), Error::TagMismatch);
+    // an entry is no batch
+    let sealed = polka::seal(&sound_public_key(), noise(), &Entry::from(b"lane 4, 00:47.52")).unwrap();
+    assert_eq!(polka::open_batch(&sound_key(), sealed.as_bytes(), noise()).unwrap_err(), Error::WrongVersion);
+    assert_eq!(SealedEntry::try_from(bytes).unwrap_err(), Error::WrongLength);
 }
 
 /// A bad word of each record, by each call that is lent it.
@@ -107,22 +183,22 @@ fn bad_words_come_back_as_locations() {
     let secret_key = SecretKey::try_from(&[&record(b"SDK")[..], &[0; 256]].concat()[..]).unwrap();
     let public_key = PublicKey::try_from(&record(b"PDK")[..]).unwrap();
     let seeded = SeededPublicKey::try_from(&record(b"PDS")[..2085]).unwrap();
-    let (noise, entry, triple) = (|| TripleNoise::from(&[0; 1536]), Entry::from(&[0; 16]), Triple::from(&[0; 768]));
+    let (noise, entry, triple) = (|| TripleNoise::from(&[0; 1536]), [Entry::from(&[0; 16])], Triple::from(&[0; 768]));
     assert_eq!(polka::check_secret_key(&secret_key), Err(error(4, "secret_key a 0")));
     for (key, location) in [(&public_key as &dyn PublicRecord, "public_key a 0"), (&seeded, "seeded_public_key b 0")] {
-        assert_eq!(polka::seal(key, noise(), &entry), Err(error(4, location)));
+        assert_eq!(polka::seal(key, noise(), &entry[0]), Err(error(4, location)));
+        assert_eq!(polka::seal_batch(key, noise(), &entry), Err(error(4, location)));
         assert_eq!(polka::encapsulate(key, &triple), Err(error(4, location)));
     }
     // the key is named where both are bad
     let sealed = SealedEntry::from([0xff; 4133]);
     assert_eq!(polka::open(&secret_key, &sealed, noise()).unwrap_err(), error(4, "secret_key a 0"));
-    // a = 0, b = 5 and s = 0 are a sound key
-    let mut sound = [0; 4357];
-    sound[..5].copy_from_slice(b"SDK\x01\x00");
-    sound[2053] = 5;
-    let sound = SecretKey::from(&sound);
+    let sound = sound_key();
     let sealed = SealedEntry::try_from(&[&record(b"PLG")[..], &[0; 32]].concat()[..]).unwrap();
     assert_eq!(polka::open(&sound, &sealed, noise()).unwrap_err(), error(11, "sealed_entry c1 0"));
+    let mut batch = [&record(b"PLG")[..], &[1, 0], &[0; 32]].concat();
+    batch[3] = 2;
+    assert_eq!(polka::open_batch(&sound, &batch, noise()).unwrap_err(), error(11, "sealed_entry c1 0"));
     let encapsulation = Encapsulation::from([0xff; 4096]);
     assert_eq!(polka::decapsulate(&sound, &encapsulation, triple).unwrap_err(), error(11, "encapsulation c1 0"));
 }
@@ -135,6 +211,7 @@ fn either_public_record_is_taken() {
         let records: [&dyn PublicRecord; 2] = [&PublicKey::from(long), &SeededPublicKey::from(seeded)];
         for record in records {
             assert_eq!(polka::seal(record, TripleNoise::from(&[0; 1536]), &Entry::from(&[0; 16])), Err(error));
+            assert_eq!(polka::seal_batch(record, TripleNoise::from(&[0; 1536]), &[Entry::from(&[0; 16])]), Err(error));
             assert_eq!(polka::encapsulate(record, &Triple::from(&[0; 768])), Err(error));
         }
         long[..5].copy_from_slice(b"PDK\x01\x00");

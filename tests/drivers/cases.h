@@ -1,5 +1,6 @@
 /* The vectors by other hands for drivers in C: reads NAME.bin, and makes each call in buffers of their own. A field is a 32-bit length,
- * the low byte first, and that many bytes; a case is its inputs, the lengths of its outputs, the number, the location, and the outputs. */
+ * the low byte first, and that many bytes; a case is its inputs, the lengths of its outputs, the number, the location, the value where the
+ * call has one, and the outputs. */
 #ifndef CASES_H
 #define CASES_H
 
@@ -99,6 +100,14 @@ static uint32_t call_open(struct buffer *in, struct buffer *out) {
     return polka_open(LENT(in[0]), LENT(in[1]), LENT(in[2]), LENT(out[0]));
 }
 
+static uint32_t call_seal_batch(struct buffer *in, struct buffer *out) {
+    return polka_seal_batch(LENT(in[0]), LENT(in[1]), LENT(in[2]), LENT(out[0]));
+}
+
+static uint32_t call_open_batch(struct buffer *in, struct buffer *out) {
+    return polka_open_batch(LENT(in[0]), LENT(in[1]), LENT(in[2]), LENT(out[0]), (uint32_t *)(void *)out[1].bytes);
+}
+
 static uint32_t call_shake128(struct buffer *in, struct buffer *out) {
     polka_shake128(LENT(in[0]), LENT(out[0]));
     return 0;
@@ -114,34 +123,53 @@ typedef uint32_t run_function(struct buffer *in, struct buffer *out);
 struct call {
     const char *name;
     int inputs, outputs;
+    int value;    /* whether it writes a number, which is lent behind the outputs; of the output then only a part is written */
     size_t stack; /* what the header says */
     run_function *run;
 };
 
 static const struct call calls[] = {
-    {"keygen", 3, 2, POLKA_KEYGEN_STACK, call_keygen},
-    {"keygen_from_seed", 3, 2, POLKA_KEYGEN_FROM_SEED_STACK, call_keygen_from_seed},
-    {"check_secret_key", 1, 0, POLKA_CHECK_SECRET_KEY_STACK, call_check_secret_key},
-    {"encapsulate", 2, 1, POLKA_ENCAPSULATE_STACK, call_encapsulate},
-    {"decapsulate", 3, 1, POLKA_DECAPSULATE_STACK, call_decapsulate},
-    {"seal", 3, 1, POLKA_SEAL_STACK, call_seal},
-    {"open", 3, 1, POLKA_OPEN_STACK, call_open},
-    {"shake128", 1, 1, POLKA_SHAKE128_STACK, call_shake128},
-    {"shake256", 1, 1, POLKA_SHAKE256_STACK, call_shake256},
+    {"keygen", 3, 2, 0, POLKA_KEYGEN_STACK, call_keygen},
+    {"keygen_from_seed", 3, 2, 0, POLKA_KEYGEN_FROM_SEED_STACK, call_keygen_from_seed},
+    {"check_secret_key", 1, 0, 0, POLKA_CHECK_SECRET_KEY_STACK, call_check_secret_key},
+    {"encapsulate", 2, 1, 0, POLKA_ENCAPSULATE_STACK, call_encapsulate},
+    {"decapsulate", 3, 1, 0, POLKA_DECAPSULATE_STACK, call_decapsulate},
+    {"seal", 3, 1, 0, POLKA_SEAL_STACK, call_seal},
+    {"open", 3, 1, 0, POLKA_OPEN_STACK, call_open},
+    {"seal_batch", 3, 1, 0, POLKA_SEAL_BATCH_STACK, call_seal_batch},
+    {"open_batch", 3, 1, 1, POLKA_OPEN_BATCH_STACK, call_open_batch},
+    {"shake128", 1, 1, 0, POLKA_SHAKE128_STACK, call_shake128},
+    {"shake256", 1, 1, 0, POLKA_SHAKE256_STACK, call_shake256},
 };
 
 static uint8_t pattern(size_t i) {
     return (uint8_t)(i * 37 + 11);
 }
 
-/* Whether an output has the expected bytes, or under a refusal those it had before. */
-static int as_expected(struct buffer out, struct buffer expected, int refused) {
+/* An output as it is before the call. */
+static struct buffer new_output(size_t length) {
+    struct buffer made = new_buffer(length);
+    for (size_t i = 0; i < length; i++) {
+        made.bytes[i] = pattern(i);
+    }
+    return made;
+}
+
+/* Whether an output has the expected bytes first, and behind them those it had before. Under a refusal none are expected. */
+static int as_expected(struct buffer out, struct buffer expected) {
     for (size_t i = 0; i < out.length; i++) {
-        if (out.bytes[i] != (refused ? pattern(i) : expected.bytes[i])) {
+        if (out.bytes[i] != (i < expected.length ? expected.bytes[i] : pattern(i))) {
             return 0;
         }
     }
-    return refused || out.length == expected.length;
+    return expected.length <= out.length;
+}
+
+/* The same of a number. */
+static int is_value(struct buffer out, struct buffer expected) {
+    uint32_t value;
+    memcpy(&value, out.bytes, sizeof value);
+    return expected.length == 0 ? as_expected(out, expected) : value == number(expected.bytes);
 }
 
 static const char *record_name(uint32_t record) {
@@ -196,19 +224,25 @@ static int run_case(FILE *file, const struct call *call, struct buffer first, ma
         in[i] = next_field(file);
     }
     for (int i = 0; i < call->outputs; i++) {
-        out[i] = new_buffer(next_number(file));
-        for (size_t j = 0; j < out[i].length; j++) {
-            out[i].bytes[j] = pattern(j);
-        }
+        out[i] = new_output(next_number(file));
     }
+    struct buffer value = new_output(call->value ? sizeof(uint32_t) : 0);
+    out[call->outputs] = value;
     uint32_t expected = next_number(file);
     struct buffer location = next_field(file);
     uint32_t answer = make(call->run, in, out);
     int right = is_answer(answer, expected, location);
     free(location.bytes);
+    if (call->value) {
+        struct buffer field = next_field(file);
+        right = right && is_value(value, field) && (field.length == 4 || expected != POLKA_DONE);
+        free(field.bytes);
+    }
+    free(value.bytes);
     for (int i = 0; i < call->outputs; i++) {
         struct buffer field = next_field(file);
-        right = right && as_expected(out[i], field, expected != POLKA_DONE);
+        int whole = field.length == out[i].length || call->value || expected != POLKA_DONE;
+        right = right && whole && as_expected(out[i], field);
         free(field.bytes);
         free(out[i].bytes);
     }

@@ -1,8 +1,8 @@
 /* Makes one call with its secrets marked undefined: memcheck then reports each branch and each address that hangs on them.
- * The answer and the outputs are marked defined again when the call is over. encapsulate_seeded and seal_seeded are encapsulate and seal
- * under a seeded public key.
- * usage: secrets keygen|keygen_from_seed|check_secret_key|encapsulate|encapsulate_seeded|decapsulate|seal|seal_seeded|open|shake128|
- *                shake256   under valgrind */
+ * The answer and the outputs are marked defined again when the call is over. encapsulate_seeded, seal_seeded and seal_batch_seeded_255 are
+ * encapsulate, seal and seal_batch_255 under a seeded public key; 1 and 255 are counts of entries.
+ * usage: secrets keygen|keygen_from_seed|check_secret_key|encapsulate|encapsulate_seeded|decapsulate|seal|seal_seeded|open|seal_batch_1|
+ *                seal_batch_255|seal_batch_seeded_255|open_batch_1|open_batch_255|shake128|shake256   under valgrind */
 #include <stdio.h>
 #include <stdlib.h>
 #include <string.h>
@@ -18,6 +18,9 @@ static uint8_t noise[POLKA_TRIPLE_NOISE_LENGTH], dummy_noise[POLKA_TRIPLE_NOISE_
 static uint8_t triple[POLKA_TRIPLE_LENGTH], dummy[POLKA_TRIPLE_LENGTH], triple_out[POLKA_TRIPLE_LENGTH];
 static uint8_t entry[POLKA_ENTRY_LENGTH], entry_out[POLKA_ENTRY_LENGTH];
 static uint8_t sealed[POLKA_SEALED_ENTRY_LENGTH], encapsulation[POLKA_ENCAPSULATION_LENGTH];
+static uint8_t entries[POLKA_BATCH_ENTRIES_LENGTH], entries_out[POLKA_BATCH_ENTRIES_LENGTH];
+static uint8_t batch[POLKA_BATCH_LENGTH(POLKA_BATCH_MOST_ENTRIES)];
+static uint32_t count_out;
 static uint8_t digest[300];
 
 /* Bytes from a fixed seed, so that each run is the same. */
@@ -58,6 +61,16 @@ static uint32_t open_sealed(void) {
     return polka_open(secret_key, sizeof secret_key, sealed, sizeof sealed, dummy_noise, sizeof dummy_noise, entry_out, sizeof entry_out);
 }
 
+/* Of the first entries, so many. */
+static uint32_t seal_batch(const uint8_t *key, size_t key_length, size_t count) {
+    return polka_seal_batch(key, key_length, noise, sizeof noise, entries, POLKA_ENTRY_LENGTH * count, batch, POLKA_BATCH_LENGTH(count));
+}
+
+static uint32_t open_batch(size_t count) {
+    return polka_open_batch(secret_key, sizeof secret_key, batch, POLKA_BATCH_LENGTH(count), dummy_noise, sizeof dummy_noise, entries_out,
+                            sizeof entries_out, &count_out);
+}
+
 static uint32_t keygen(void) {
     return polka_keygen(stream, sizeof stream, noise_s, sizeof noise_s, noise_e, sizeof noise_e, public_key, sizeof public_key, secret_key,
                         sizeof secret_key);
@@ -95,6 +108,33 @@ static int round_trips(const uint8_t *key, size_t key_length) {
            encapsulate(key, key_length) == POLKA_DONE && decapsulate() == POLKA_DONE && memcmp(triple, triple_out, sizeof triple) == 0;
 }
 
+static void clear_batch_out(void) {
+    memset(entries_out, 0, sizeof entries_out);
+    count_out = 0;
+}
+
+/* Whether the first entries came back, so many, and nothing was written behind them. */
+static int batch_opened(size_t count) {
+    size_t length = POLKA_ENTRY_LENGTH * count;
+    for (size_t i = length; i < sizeof entries_out; i++) {
+        if (entries_out[i] != 0) {
+            return 0;
+        }
+    }
+    return count_out == count && memcmp(entries, entries_out, length) == 0;
+}
+
+static int batch_round_trips(const uint8_t *key, size_t key_length, size_t count) {
+    clear_batch_out();
+    return seal_batch(key, key_length, count) == POLKA_DONE && open_batch(count) == POLKA_DONE && batch_opened(count);
+}
+
+/* The count at the end of a call's name. */
+static size_t count_of(const char *call) {
+    const char *end = strrchr(call, '_');
+    return end == NULL ? 0 : (size_t)strtoul(end + 1, NULL, 10);
+}
+
 /* One function a secret: memcheck names it as the place that a value comes from. None is inlined, or its name is lost. */
 #define NAMED __attribute__((noinline))
 
@@ -104,6 +144,10 @@ static NAMED void secret_noise(void) {
 
 static NAMED void secret_entry(void) {
     VALGRIND_MAKE_MEM_UNDEFINED(entry, sizeof entry);
+}
+
+static NAMED void secret_entries(void) {
+    VALGRIND_MAKE_MEM_UNDEFINED(entries, sizeof entries);
 }
 
 /* s alone: a and b are public. */
@@ -141,6 +185,10 @@ static void all_defined(void) {
     VALGRIND_MAKE_MEM_DEFINED(entry_out, sizeof entry_out);
     VALGRIND_MAKE_MEM_DEFINED(sealed, sizeof sealed);
     VALGRIND_MAKE_MEM_DEFINED(encapsulation, sizeof encapsulation);
+    VALGRIND_MAKE_MEM_DEFINED(entries, sizeof entries);
+    VALGRIND_MAKE_MEM_DEFINED(entries_out, sizeof entries_out);
+    VALGRIND_MAKE_MEM_DEFINED(batch, sizeof batch);
+    VALGRIND_MAKE_MEM_DEFINED(&count_out, sizeof count_out);
     VALGRIND_MAKE_MEM_DEFINED(digest, sizeof digest);
 }
 
@@ -162,8 +210,13 @@ int main(int count, char **words) {
     fill_codes(triple, sizeof triple);
     fill_codes(dummy, sizeof dummy);
     fill(entry, sizeof entry);
+    fill(entries, sizeof entries);
     must(round_trips(LENT(public_key)), "round trips");
     must(round_trips(LENT(seeded_public_key)), "round trips under a seeded public key");
+    must(batch_round_trips(LENT(seeded_public_key), 255), "round trip of a batch under a seeded public key");
+    size_t batch_count = count_of(words[1]);
+    must(batch_count == 0 || batch_round_trips(LENT(public_key), batch_count), "round trip of a batch");
+    clear_batch_out();
     memset(entry_out, 0, sizeof entry_out);
     memset(triple_out, 0, sizeof triple_out);
 
@@ -179,6 +232,18 @@ int main(int count, char **words) {
         secret_key_s();
         secret_dummy();
         answer = open_sealed();
+    } else if (strcmp(words[1], "seal_batch_1") == 0 || strcmp(words[1], "seal_batch_255") == 0) {
+        secret_noise();
+        secret_entries();
+        answer = seal_batch(LENT(public_key), batch_count);
+    } else if (strcmp(words[1], "seal_batch_seeded_255") == 0) {
+        secret_noise();
+        secret_entries();
+        answer = seal_batch(LENT(seeded_public_key), batch_count);
+    } else if (strcmp(words[1], "open_batch_1") == 0 || strcmp(words[1], "open_batch_255") == 0) {
+        secret_key_s();
+        secret_dummy();
+        answer = open_batch(batch_count);
     } else if (strcmp(words[1], "keygen") == 0) {
         secret_key_noise();
         answer = keygen();
@@ -212,6 +277,8 @@ int main(int count, char **words) {
     must(answer == POLKA_DONE, "the call under secrets marked undefined");
     if (strcmp(words[1], "open") == 0) {
         must(memcmp(entry, entry_out, sizeof entry) == 0, "another entry");
+    } else if (strncmp(words[1], "open_batch", strlen("open_batch")) == 0) {
+        must(batch_opened(batch_count), "other entries");
     }
     printf("%s: answer %u\n", words[1], (unsigned)answer);
     return 0;

@@ -12,6 +12,8 @@ pub enum Call {
     Decapsulate,
     Seal,
     Open,
+    SealBatch,
+    OpenBatch,
     Shake128,
     Shake256,
 }
@@ -28,6 +30,7 @@ type Hash = fn(&[u8], &mut [u8]);
 type TwoIn = fn(&[u8], &[u8], &mut [u8]) -> u32;
 type ThreeIn = fn(&[u8], &[u8], &[u8], &mut [u8]) -> u32;
 type ThreeInTwoOut = fn(&[u8], &[u8], &[u8], &mut [u8], &mut [u8]) -> u32;
+type ThreeInWithValue = fn(&[u8], &[u8], &[u8], &mut [u8], &mut u32) -> u32;
 
 /// The calls on bytes, by whoever supplies them. They answer codes.
 pub struct Calls {
@@ -38,6 +41,8 @@ pub struct Calls {
     pub decapsulate: ThreeIn,
     pub seal: ThreeIn,
     pub open: ThreeIn,
+    pub seal_batch: ThreeIn,
+    pub open_batch: ThreeInWithValue,
     pub shake128: Hash,
     pub shake256: Hash,
 }
@@ -50,16 +55,23 @@ pub const REFERENCE: Calls = Calls {
     decapsulate: reference::decapsulate,
     seal: reference::seal,
     open: reference::open,
+    seal_batch: reference::seal_batch,
+    open_batch: reference::open_batch,
     shake128: reference::shake128,
     shake256: reference::shake256,
 };
 
-/// The code, and every output buffer afterwards.
+/// The code, the value beside it, and every output buffer afterwards.
 #[derive(Clone, PartialEq, Eq, Debug)]
 pub struct Outcome {
     pub code: u32,
+    /// `NO_VALUE` where the call has written none.
+    pub value: u32,
     pub outputs: Vec<Vec<u8>>,
 }
+
+/// What stands in the lent number before the call.
+pub const NO_VALUE: u32 = 0xa5c3_5a3c;
 
 /// Bytes before and after each output that no call may touch.
 const MARGIN: usize = 64;
@@ -69,10 +81,19 @@ fn pattern(length: usize) -> Vec<u8> {
     (0..length).map(|i| (i * 37 + 11) as u8).collect()
 }
 
-/// Runs a case; fails where a byte beside an output changes, or a byte of an output under a code other than 0.
+/// What an output of this length holds when a call has written these first bytes of it.
+pub fn written_over(length: usize, first: &[u8]) -> Vec<u8> {
+    let mut all = pattern(length + 2 * MARGIN)[MARGIN..MARGIN + length].to_vec();
+    all[..first.len()].copy_from_slice(first);
+    all
+}
+
+/// Runs a case; fails where a byte beside an output changes, a byte of an output or the value under a code other than 0, or a byte behind
+/// the entries of a batch.
 pub fn run(calls: &Calls, case: &Case) -> Outcome {
     let before: Vec<Vec<u8>> = case.outputs.iter().map(|length| pattern(length + 2 * MARGIN)).collect();
     let mut after = before.clone();
+    let mut value = NO_VALUE;
     let code = {
         let input = |i: usize| &case.inputs[i][..];
         let mut lent: Vec<&mut [u8]> =
@@ -93,6 +114,8 @@ pub fn run(calls: &Calls, case: &Case) -> Outcome {
             Call::Decapsulate => (calls.decapsulate)(input(0), input(1), input(2), lent[0]),
             Call::Seal => (calls.seal)(input(0), input(1), input(2), lent[0]),
             Call::Open => (calls.open)(input(0), input(1), input(2), lent[0]),
+            Call::SealBatch => (calls.seal_batch)(input(0), input(1), input(2), lent[0]),
+            Call::OpenBatch => (calls.open_batch)(input(0), input(1), input(2), lent[0], &mut value),
             Call::Shake128 => hash(calls.shake128, &mut lent),
             Call::Shake256 => hash(calls.shake256, &mut lent),
         }
@@ -102,8 +125,14 @@ pub fn run(calls: &Calls, case: &Case) -> Outcome {
         assert!(beside(before) == beside(after), "{}: written outside the buffer", case.name);
         assert!(code == 0 || before == after, "{}: refused under {}, and an output has changed", case.name, answers::shown(code));
     }
+    let has_value = code == 0 && case.call == Call::OpenBatch;
+    assert!(has_value || value == NO_VALUE, "{}: {}, and the value has changed", case.name, answers::shown(code));
+    if has_value {
+        let end = MARGIN + 16 * value as usize;
+        assert!(before[0][end..] == after[0][end..], "{}: written behind {value} entries", case.name);
+    }
     let outputs = after.iter().zip(&case.outputs).map(|(buffer, length)| buffer[MARGIN..MARGIN + length].to_vec()).collect();
-    Outcome { code, outputs }
+    Outcome { code, value, outputs }
 }
 
 /// Counts agreements, and remembers by name what did not agree.
@@ -124,6 +153,8 @@ impl Count {
         *self.numbers.entry(answers::number(expected.code)).or_default() += 1;
         if expected.code != actual.code {
             self.mismatches.push(format!("{name}: answers {}, expected {}", answers::shown(actual.code), answers::shown(expected.code)));
+        } else if expected.value != actual.value {
+            self.mismatches.push(format!("{name}: the value {}, expected {}", actual.value, expected.value));
         } else if expected.outputs != actual.outputs {
             self.mismatches.push(format!("{name}: answers {}, other bytes", answers::shown(actual.code)));
         }

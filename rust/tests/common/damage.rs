@@ -15,6 +15,9 @@ pub struct Sound {
     pub seal: Case,
     pub seal_seeded: Case,
     pub open: Case,
+    pub seal_batch: Case,
+    pub seal_batch_seeded: Case,
+    pub open_batch: Case,
 }
 
 fn case(name: &str, call: Call, inputs: Vec<Vec<u8>>, outputs: &[usize]) -> Case {
@@ -28,7 +31,15 @@ fn written(case: &Case) -> Option<Vec<Vec<u8>>> {
 }
 
 impl Sound {
+    /// With a batch of any size, the least and the largest among them more often than others.
     pub fn new(random: &mut Random) -> Sound {
+        let any = 1 + random.below(255);
+        let entries = *random.pick(&[1, 2, 3, 16, 255, any, any, any]);
+        Sound::with_entries(random, entries)
+    }
+
+    /// With so many entries in the batch.
+    pub fn with_entries(random: &mut Random, entries: usize) -> Sound {
         // about one random key in sixty is refused
         let (keygen_from_seed, keys) = loop {
             let inputs = vec![random.bytes(32), random.bytes(512), random.bytes(512)];
@@ -53,14 +64,33 @@ impl Sound {
         let encapsulate_seeded = seeded(&encapsulate);
         let encapsulation = written(&encapsulate).unwrap().remove(0);
         let decapsulate = case("decapsulate", Call::Decapsulate, vec![secret_key.clone(), encapsulation, random.codes(768)], &[768]);
-        let seal = case("seal", Call::Seal, vec![public_key, random.bytes(1536), random.bytes(16)], &[4133]);
+        let seal = case("seal", Call::Seal, vec![public_key.clone(), random.bytes(1536), random.bytes(16)], &[4133]);
         let seal_seeded = seeded(&seal);
         let sealed = written(&seal).unwrap().remove(0);
-        let open = case("open", Call::Open, vec![secret_key, sealed, random.bytes(1536)], &[16]);
-        Sound { keygen, keygen_from_seed, check_secret_key, encapsulate, encapsulate_seeded, decapsulate, seal, seal_seeded, open }
+        let open = case("open", Call::Open, vec![secret_key.clone(), sealed, random.bytes(1536)], &[16]);
+        let inputs = vec![public_key, random.bytes(1536), random.bytes(16 * entries)];
+        let seal_batch = case(&format!("seal_batch of {entries}"), Call::SealBatch, inputs, &[batch_length(entries)]);
+        let seal_batch_seeded = seeded(&seal_batch);
+        let batch = written(&seal_batch).unwrap().remove(0);
+        let inputs = vec![secret_key, batch, random.bytes(1536)];
+        let open_batch = case(&format!("open_batch of {entries}"), Call::OpenBatch, inputs, &[4080]);
+        Sound {
+            keygen,
+            keygen_from_seed,
+            check_secret_key,
+            encapsulate,
+            encapsulate_seeded,
+            decapsulate,
+            seal,
+            seal_seeded,
+            open,
+            seal_batch,
+            seal_batch_seeded,
+            open_batch,
+        }
     }
 
-    pub fn all(&self) -> [&Case; 9] {
+    pub fn all(&self) -> [&Case; 12] {
         [
             &self.keygen,
             &self.keygen_from_seed,
@@ -71,6 +101,9 @@ impl Sound {
             &self.seal,
             &self.seal_seeded,
             &self.open,
+            &self.seal_batch,
+            &self.seal_batch_seeded,
+            &self.open_batch,
         ]
     }
 }
@@ -130,6 +163,29 @@ fn put_code(bytes: &mut [u8], at: usize, place: usize, code: u8) {
     }
 }
 
+/// A batch of so many entries.
+fn batch_length(entries: usize) -> usize {
+    4119 + 16 * entries
+}
+
+/// Where a batch has its count, and where its body starts.
+const COUNT_AT: usize = 4101;
+const BODY_AT: usize = 4103;
+
+/// The body blocks of a batch, input 1, changed, and its count with them. A batch whose length does not fit its count is left as it is.
+fn change_blocks(case: &mut Case, change: impl Fn(&mut Vec<Vec<u8>>)) {
+    let batch = &mut case.inputs[1];
+    if word(batch, COUNT_AT).map(|count| batch_length(count as usize)) != Some(batch.len()) {
+        return;
+    }
+    let tag = batch.split_off(batch.len() - 16);
+    let mut blocks = batch.split_off(BODY_AT).chunks(16).map(<[u8]>::to_vec).collect();
+    change(&mut blocks);
+    put_word(batch, COUNT_AT, blocks.len() as u32);
+    batch.extend(blocks.concat());
+    batch.extend(tag);
+}
+
 /// The value of f at a root of X^1024 + 1, by Horner's rule.
 fn value_at(f: &[u32], root: u64) -> u32 {
     f.iter().rev().fold(0, |value, &c| (value * root + u64::from(c)) % u64::from(Q)) as u32
@@ -163,15 +219,18 @@ fn noise_of_value(value: u32, exponent: usize) -> Vec<u8> {
 /// Every buffer too short, too long and empty.
 pub fn lengths(case: &Case) -> Vec<Damage> {
     let mut all = vec![];
-    let mut add = |name: String, edit: Edit| all.push(Damage { name, code: Some(1), edit });
+    let mut add = |name: String, code: u32, edit: Edit| all.push(Damage { name, code: Some(code), edit });
     for (i, length) in case.inputs.iter().map(Vec::len).enumerate() {
         for other in [length - 1, length + 1, 0, 1, 2 * length] {
-            add(format!("input {i} of length {other}"), Box::new(move |case| case.inputs[i].resize(other, 0)));
+            // no entries, or too many, are told before the length of the batch
+            let count = case.call == Call::SealBatch && i == 2 && other % 16 == 0 && !(1..=255).contains(&(other / 16));
+            let code = if count { 12 } else { 1 };
+            add(format!("input {i} of length {other}"), code, Box::new(move |case| case.inputs[i].resize(other, 0)));
         }
     }
     for (i, &length) in case.outputs.iter().enumerate() {
         for other in [length - 1, length + 1, 0, 1, 2 * length] {
-            add(format!("output {i} of length {other}"), Box::new(move |case| case.outputs[i] = other));
+            add(format!("output {i} of length {other}"), 1, Box::new(move |case| case.outputs[i] = other));
         }
     }
     all
@@ -179,7 +238,7 @@ pub fn lengths(case: &Case) -> Vec<Damage> {
 
 /// Each byte of the mark, other records' marks, and versions.
 pub fn headers(case: &Case, input: usize) -> Vec<Damage> {
-    let own = &case.inputs[input][..3];
+    let (own, own_version) = (&case.inputs[input][..3], word(&case.inputs[input], 3));
     let mut all = vec![];
     for byte in 0..3 {
         for flip in [0x01, 0x20, 0x80, 0xff] {
@@ -196,8 +255,9 @@ pub fn headers(case: &Case, input: usize) -> Vec<Damage> {
             put(&mut case.inputs[input], 0, mark);
         }));
     }
-    let single_bits = (1..16).map(|bit| 1 << bit);
-    for version in [0u16, 3, 255, 257, 513, 65535].into_iter().chain(single_bits) {
+    let single_bits = (0..16).map(|bit| 1 << bit);
+    let versions = [0u16, 3, 255, 257, 258, 513, 514, 65535].into_iter().chain(single_bits);
+    for version in versions.filter(|&version| Some(u32::from(version)) != own_version) {
         all.push(Damage::new(format!("input {input}, version {version}"), Some(3), move |case| {
             put(&mut case.inputs[input], 3, &version.to_le_bytes());
         }));
@@ -252,6 +312,10 @@ impl Words {
         answers::located(self.number, self.record, self.part, index)
     }
 
+    pub fn get(self, case: &Case, index: usize) -> Option<u32> {
+        word(&case.inputs[self.input], self.start + 2 * index)
+    }
+
     pub fn put(self, case: &mut Case, index: usize, value: u32) {
         put_word(&mut case.inputs[self.input], self.start + 2 * index, value);
     }
@@ -268,13 +332,13 @@ pub fn words_of(case: &Case) -> Vec<Words> {
     };
     let secret_key = pair(0, 4, "secret_key", ["a", "b"], 5);
     match case.call {
-        Call::Encapsulate | Call::Seal if is_seeded(case) => {
+        Call::Encapsulate | Call::Seal | Call::SealBatch if is_seeded(case) => {
             vec![Words { input: 0, number: 4, record: "seeded_public_key", part: "b", start: 37 }]
         }
-        Call::Encapsulate | Call::Seal => pair(0, 4, "public_key", ["a", "b"], 5),
+        Call::Encapsulate | Call::Seal | Call::SealBatch => pair(0, 4, "public_key", ["a", "b"], 5),
         Call::CheckSecretKey => secret_key,
         Call::Decapsulate => [secret_key, pair(1, 11, "encapsulation", ["c1", "c2"], 0)].concat(),
-        Call::Open => [secret_key, pair(1, 11, "sealed_entry", ["c1", "c2"], 5)].concat(),
+        Call::Open | Call::OpenBatch => [secret_key, pair(1, 11, "sealed_entry", ["c1", "c2"], 5)].concat(),
         Call::Keygen | Call::KeygenFromSeed | Call::Shake128 | Call::Shake256 => vec![],
     }
 }
@@ -364,18 +428,160 @@ pub fn moved_capsules(start: usize) -> Vec<Damage> {
     all
 }
 
+/// A bit of a sealed entry or a batch, input 1, from `start` on.
+fn turned_bit(name: String, start: usize, bit: usize) -> Damage {
+    Damage::new(name, Some(10), move |case| {
+        if let Some(byte) = case.inputs[1].get_mut(start + bit / 8) {
+            *byte ^= 1 << (bit % 8);
+        }
+    })
+}
+
 /// Every bit of body and tag. The sealed entry is input 1.
 pub fn body_and_tag() -> Vec<Damage> {
-    (0..256)
-        .map(|bit| {
-            let part = if bit < 128 { "body" } else { "tag" };
-            Damage::new(format!("{part} bit {}", bit % 128), Some(10), move |case| {
-                if let Some(byte) = case.inputs[1].get_mut(4101 + bit / 8) {
-                    *byte ^= 1 << (bit % 8);
+    (0..256).map(|bit| turned_bit(format!("{} bit {}", if bit < 128 { "body" } else { "tag" }, bit % 128), 4101, bit)).collect()
+}
+
+/// Every bit of the tag, of the first block and of the last, and one of each block between them. The batch, of m entries, is input 1.
+pub fn batch_body_and_tag(m: usize) -> Vec<Damage> {
+    let mut all: Vec<Damage> = (0..128).map(|bit| turned_bit(format!("tag bit {bit}"), BODY_AT + 16 * m, bit)).collect();
+    for block in 0..m {
+        let bits = if block == 0 || block == m - 1 { 0..128 } else { block % 128..block % 128 + 1 };
+        all.extend(bits.map(|bit| turned_bit(format!("bit {bit} of block {block}"), BODY_AT, 128 * block + bit)));
+    }
+    all
+}
+
+/// Other counts in the record, and other lengths of it. The batch, of m entries, is input 1.
+pub fn batch_counts(m: usize) -> Vec<Damage> {
+    let mut all = vec![];
+    let far = [0, 256, 257, 511, 512, 4096, 32_769, 65_280, 65_535, 256 * m, 256 + m];
+    for count in [1, 2, m - 1, m + 1, 254, 255].into_iter().chain(far).filter(|&count| count != m) {
+        let code = if (1..=255).contains(&count) { 1 } else { 12 };
+        all.push(Damage::new(format!("count {count}"), Some(code), move |case| put_word(&mut case.inputs[1], COUNT_AT, count as u32)));
+    }
+    let ends = [5, COUNT_AT, COUNT_AT + 1, BODY_AT, 4118, 4119, 4120, 4133, batch_length(1), batch_length(255), batch_length(256)];
+    let near = [m - 1, m + 1].map(batch_length);
+    for length in ends.into_iter().chain(near).filter(|&length| length != batch_length(m)) {
+        all.push(Damage::new(format!("batch of length {length}"), Some(1), move |case| case.inputs[1].resize(length, 0)));
+    }
+    // the length fits a count that no batch has, or is below that of none
+    for (count, length, code) in [(0, batch_length(0), 12), (256, batch_length(256), 12), (0, batch_length(0) - 1, 1)] {
+        all.push(Damage::new(format!("count {count}, batch of length {length}"), Some(code), move |case| {
+            case.inputs[1].resize(length, 0);
+            put_word(&mut case.inputs[1], COUNT_AT, count);
+        }));
+    }
+    all
+}
+
+/// Blocks dropped, added and exchanged, with the count that fits. The batch, of m entries, is input 1.
+pub fn batch_blocks(m: usize) -> Vec<Damage> {
+    let mut all = vec![];
+    let mut add = |name: String, blocks: usize, change: fn(&mut Vec<Vec<u8>>, usize, usize), one: usize, other: usize| {
+        let code = if (1..=255).contains(&blocks) { 10 } else { 12 };
+        all.push(Damage::new(name, Some(code), move |case| {
+            change_blocks(case, |blocks| {
+                // an earlier edit may have left fewer
+                if one.max(other) < blocks.len() {
+                    change(blocks, one, other);
                 }
-            })
-        })
-        .collect()
+            });
+        }));
+    };
+    let mut places = vec![0, m / 2, m - 1];
+    places.dedup();
+    for at in places {
+        add(format!("block {at} dropped"), m - 1, |blocks, at, _| drop(blocks.remove(at)), at, at);
+        add(format!("block {at} twice"), m + 1, |blocks, at, _| blocks.insert(at, blocks[at].clone()), at, at);
+        add(format!("zeros before block {at}"), m + 1, |blocks, at, _| blocks.insert(at, vec![0; 16]), at, at);
+        add(format!("zeros behind block {at}"), m + 1, |blocks, at, _| blocks.insert(at + 1, vec![0; 16]), at, at);
+    }
+    let mut pairs = vec![(0, 1), (0, m - 1), (m.saturating_sub(2), m - 1)];
+    pairs.retain(|(one, other)| one < other && *other < m);
+    pairs.dedup();
+    for (one, other) in pairs {
+        add(format!("blocks {one} and {other} exchanged"), m, |blocks, one, other| blocks.swap(one, other), one, other);
+        add(format!("block {other} is block {one} too"), m, |blocks, one, other| blocks[other] = blocks[one].clone(), one, other);
+        add(format!("blocks before block {other} alone"), other, |blocks, _, other| blocks.truncate(other), one, other);
+    }
+    all
+}
+
+/// Other entries, other counts of them with the batch's length that fits, and bytes that are no entries. They are input 2.
+pub fn entries() -> Vec<Damage> {
+    let mut all = vec![];
+    for fill in [0x00, 0xff] {
+        all.push(Damage::new(format!("entries all {fill:#04x}"), Some(0), move |case| case.inputs[2].fill(fill)));
+    }
+    let mut add = |name: String, code: u32, length: usize| {
+        all.push(Damage::new(name, Some(code), move |case| {
+            case.inputs[2].resize(length, 0x5a);
+            case.outputs[0] = 4119 + length;
+        }));
+    };
+    // some are in range where their high bits are lost
+    for count in [0, 1, 2, 3, 254, 255, 256, 257, 511, 4096, 65_535, 65_536, 65_537] {
+        add(format!("{count} entries"), if (1..=255).contains(&count) { 0 } else { 12 }, 16 * count);
+    }
+    for length in [1, 8, 15, 17, 4079, 4081, 4095, 4097, 1_048_593] {
+        add(format!("{length} bytes of entries"), 1, length);
+    }
+    all
+}
+
+/// A fault for each check of a call on batches, in the order of the checks. Each can stand beside any of the others.
+pub fn in_order(case: &Case) -> Vec<Damage> {
+    let fault = |name: &str, code: u32, edit: Edit| Damage { name: name.into(), code: Some(code), edit };
+    let mark = |input: usize| fault("mark", 2, Box::new(move |case| case.inputs[input][1] ^= 0x20));
+    let version = |input: usize| fault("version 3", 3, Box::new(move |case| case.inputs[input][3] = 3));
+    let cut = |input: usize, length: usize| {
+        fault(&format!("input {input} cut to {length}"), 1, Box::new(move |case| case.inputs[input].truncate(length)))
+    };
+    let output = || fault("output shorter by 1", 1, Box::new(|case| case.outputs[0] -= 1));
+    let more = |input: usize, by: usize, code: u32| {
+        fault(&format!("input {input} longer by {by}"), code, Box::new(move |case| case.inputs[input].extend(vec![0; by])))
+    };
+    let bad_word = |part: Words, index: usize| fault("a bad word", part.code(index), Box::new(move |case| part.put(case, index, Q)));
+    // a bad word stays
+    let no_unit = |b: Words| {
+        let edit = move |case: &mut Case| {
+            for index in 0..N {
+                if b.get(case, index) < Some(Q) {
+                    b.put(case, index, 0);
+                }
+            }
+        };
+        fault("b is 0", 6, Box::new(edit))
+    };
+    let words = words_of(case);
+    match case.call {
+        Call::SealBatch => {
+            let b = *words.last().unwrap();
+            vec![more(2, 1, 1), more(2, 4096, 12), cut(0, 2000), cut(1, 1535), output(), mark(0), version(0), bad_word(b, 700), no_unit(b)]
+        }
+        Call::OpenBatch => vec![
+            cut(0, 4356),
+            // still below 4,119 with a byte more
+            cut(1, 4110),
+            cut(2, 1535),
+            output(),
+            mark(0),
+            version(0),
+            bad_word(words[0], 5),
+            fault("a code is 3", 5, Box::new(|case| put_code(&mut case.inputs[0], 4101, 1, 3))),
+            no_unit(words[1]),
+            fault("s is 0", 7, Box::new(|case| put(&mut case.inputs[0], 4102, &[0; 255]))),
+            mark(1),
+            version(1),
+            fault("count larger by 256", 12, Box::new(|case| case.inputs[1][COUNT_AT + 1] = 1)),
+            more(1, 1, 1),
+            bad_word(words[3], 9),
+            fault("c1[0] moved by 3", 9, Box::new(|case| move_word(&mut case.inputs[1], 5, 3))),
+            fault("body", 10, Box::new(|case| case.inputs[1][BODY_AT] ^= 1)),
+        ],
+        _ => vec![],
+    }
 }
 
 /// Dummies and noise at their limits; none changes an answer.
@@ -470,13 +676,13 @@ pub fn of(case: &Case, random: &mut Random) -> Vec<Damage> {
             all.extend(seeds(0, None));
             all.extend(seeded_no_units());
         }
-        Call::CheckSecretKey | Call::Decapsulate | Call::Open => {
+        Call::CheckSecretKey | Call::Decapsulate | Call::Open | Call::OpenBatch => {
             all.extend(headers(case, 0));
             all.extend(codes(0, 4101, 1024));
             all.extend(no_units(2053));
             all.extend(parted_keys());
         }
-        Call::Encapsulate | Call::Seal => {
+        Call::Encapsulate | Call::Seal | Call::SealBatch => {
             all.extend(headers(case, 0));
             all.extend(other_records(case));
             if is_seeded(case) {
@@ -504,6 +710,19 @@ pub fn of(case: &Case, random: &mut Random) -> Vec<Damage> {
             all.extend(headers(case, 1));
             all.extend(moved_capsules(5));
             all.extend(body_and_tag());
+            all.extend(dummies(2, false));
+        }
+        Call::SealBatch => {
+            all.extend(dummies(1, false));
+            all.extend(entries());
+        }
+        Call::OpenBatch => {
+            let m = (case.inputs[1].len() - batch_length(0)) / 16;
+            all.extend(headers(case, 1));
+            all.extend(moved_capsules(5));
+            all.extend(batch_body_and_tag(m));
+            all.extend(batch_counts(m));
+            all.extend(batch_blocks(m));
             all.extend(dummies(2, false));
         }
         _ => {}

@@ -16,6 +16,8 @@ pub const LIBRARY: Calls = Calls {
     decapsulate: ffi::decapsulate,
     seal: ffi::seal,
     open: ffi::open,
+    seal_batch: ffi::seal_batch,
+    open_batch: ffi::open_batch,
     shake128: ffi::shake128,
     shake256: ffi::shake256,
 };

@@ -227,10 +227,10 @@ pub fn shake256(input: &[u8], out: &mut [u8]) {
     shake(136, input, out);
 }
 
-fn shake256_of<const LENGTH: usize>(first: u8, rest: &[u8]) -> [u8; LENGTH] {
+fn shake256_of(first: u8, rest: &[u8], length: usize) -> Vec<u8> {
     let mut input = vec![first];
     input.extend_from_slice(rest);
-    let mut out = [0; LENGTH];
+    let mut out = vec![0; length];
     shake256(&input, &mut out);
     out
 }
@@ -253,8 +253,18 @@ pub fn field_product(x: [u8; 16], y: [u8; 16]) -> [u8; 16] {
     result.to_le_bytes()
 }
 
-fn xor(x: [u8; 16], y: [u8; 16]) -> [u8; 16] {
-    std::array::from_fn(|i| x[i] ^ y[i])
+/// x, x^2 and so on, so many of them.
+fn field_powers(x: [u8; 16], count: usize) -> Vec<[u8; 16]> {
+    std::iter::successors(Some(x), |power| Some(field_product(*power, x))).take(count).collect()
+}
+
+fn xor(x: &[u8], y: &[u8]) -> Vec<u8> {
+    assert_eq!(x.len(), y.len());
+    x.iter().zip(y).map(|(x, y)| x ^ y).collect()
+}
+
+fn block(bytes: &[u8]) -> [u8; 16] {
+    bytes.try_into().expect("a block of 16 bytes")
 }
 
 // ---- bytes
@@ -323,18 +333,18 @@ fn three(parts: Vec<Element>) -> Triple {
     parts.try_into().expect("768 bytes are three polynomials")
 }
 
-fn put_header(mark: &[u8; 3]) -> Vec<u8> {
+fn put_header(mark: &[u8; 3], version: u8) -> Vec<u8> {
     let mut bytes = mark.to_vec();
-    bytes.extend_from_slice(&[1, 0]);
+    bytes.extend_from_slice(&[version, 0]);
     bytes
 }
 
 /// 2, then 3.
-fn judge_header(mark: &[u8; 3], record: &[u8]) -> Result<(), u32> {
+fn judge_header(mark: &[u8; 3], version: u8, record: &[u8]) -> Result<(), u32> {
     if record[..3] != *mark {
         return Err(2);
     }
-    if record[3..5] != [1, 0] {
+    if record[3..5] != [version, 0] {
         return Err(3);
     }
     Ok(())
@@ -374,11 +384,11 @@ fn public_key_length(public_key: &[u8]) -> usize {
 /// The length picks the record.
 fn judge_public_key(record: &[u8]) -> Result<PublicKey, u32> {
     let (a, b) = if record.len() == 2085 {
-        judge_header(b"PDS", record)?;
+        judge_header(b"PDS", 1, record)?;
         let b = elements(4, "seeded_public_key", &["b"], &record[37..])?.pop().unwrap();
         (seeded(&record[5..37])?, b)
     } else {
-        judge_header(b"PDK", record)?;
+        judge_header(b"PDK", 1, record)?;
         let mut parts = elements(4, "public_key", &["a", "b"], &record[5..])?;
         let b = parts.pop().unwrap();
         (parts.pop().unwrap(), b)
@@ -388,7 +398,7 @@ fn judge_public_key(record: &[u8]) -> Result<PublicKey, u32> {
 }
 
 fn judge_secret_key(record: &[u8]) -> Result<SecretKey, u32> {
-    judge_header(b"SDK", record)?;
+    judge_header(b"SDK", 1, record)?;
     let mut parts = elements(4, "secret_key", &["a", "b"], &record[5..4101])?;
     let b = parts.pop().unwrap();
     let a = parts.pop().unwrap();
@@ -426,7 +436,7 @@ fn new_key(a: &[u32], noise_s: &[u8], noise_e: &[u8]) -> Result<(Element, Elemen
 }
 
 fn secret_key_bytes(a: &[u32], b: &[u32], s: &[u32]) -> Vec<u8> {
-    let mut record = put_header(b"SDK");
+    let mut record = put_header(b"SDK", 1);
     put_words(a, &mut record);
     put_words(b, &mut record);
     put_codes(s, &mut record);
@@ -463,15 +473,34 @@ fn opened(key: &SecretKey, c1: &[u32], c2: &[u32], dummy: &Triple) -> Result<Tri
     }
 }
 
-/// The pad, K1 and K2.
-fn derived(triple: &Triple) -> ([u8; 16], [u8; 16], [u8; 16]) {
-    let k: [u8; 48] = shake256_of(1, &triple_bytes(triple));
-    let part = |i: usize| -> [u8; 16] { k[16 * i..16 * i + 16].try_into().unwrap() };
-    (shake256_of(2, &part(0)), part(1), part(2))
+/// The pad of this length, K1 and K2.
+fn derived(triple: &Triple, length: usize) -> (Vec<u8>, [u8; 16], [u8; 16]) {
+    let k = shake256_of(1, &triple_bytes(triple), 48);
+    (shake256_of(2, &k[..16], length), block(&k[16..32]), block(&k[32..]))
 }
 
-fn tag(k1: [u8; 16], k2: [u8; 16], body: [u8; 16]) -> [u8; 16] {
-    xor(field_product(k1, body), k2)
+fn tag(k1: [u8; 16], k2: [u8; 16], body: &[u8]) -> Vec<u8> {
+    xor(&field_product(k1, block(body)), &k2)
+}
+
+/// K1^(m+1) × L + K1^m × B1 + .. + K1 × Bm + K2, every power written out; L holds m in its first two bytes.
+fn batch_tag(k1: [u8; 16], k2: [u8; 16], body: &[u8]) -> Vec<u8> {
+    let blocks: Vec<&[u8]> = body.chunks(16).collect();
+    let m = blocks.len();
+    let mut l = [0; 16];
+    l[..2].copy_from_slice(&(m as u16).to_le_bytes());
+    let powers = field_powers(k1, m + 1);
+    let power = |exponent: usize| powers[exponent - 1];
+    let first = xor(&field_product(power(m + 1), l), &k2);
+    (1..=m).fold(first, |sum, i| xor(&sum, &field_product(power(m + 1 - i), block(blocks[i - 1]))))
+}
+
+/// Refused under 12 unless it is 1 to 255.
+fn judge_count(m: usize) -> Result<(), u32> {
+    if !(1..=255).contains(&m) {
+        return Err(12);
+    }
+    Ok(())
 }
 
 // ---- the calls: the code, and outputs written under 0 alone
@@ -486,7 +515,7 @@ pub fn keygen(stream: &[u8], noise_s: &[u8], noise_e: &[u8], public_key: &mut [u
         judge_lengths(&lengths)?;
         let a = uniform(stream)?;
         let (b, s) = new_key(&a, noise_s, noise_e)?;
-        let mut record = put_header(b"PDK");
+        let mut record = put_header(b"PDK", 1);
         put_words(&a, &mut record);
         put_words(&b, &mut record);
         public_key.copy_from_slice(&record);
@@ -502,7 +531,7 @@ pub fn keygen_from_seed(seed: &[u8], noise_s: &[u8], noise_e: &[u8], public_key:
         judge_lengths(&lengths)?;
         let a = seeded(seed)?;
         let (b, s) = new_key(&a, noise_s, noise_e)?;
-        let mut record = put_header(b"PDS");
+        let mut record = put_header(b"PDS", 1);
         record.extend_from_slice(seed);
         put_words(&b, &mut record);
         public_key.copy_from_slice(&record);
@@ -555,13 +584,13 @@ pub fn seal(public_key: &[u8], noise: &[u8], entry: &[u8], sealed: &mut [u8]) ->
         let key = judge_public_key(public_key)?;
         let triple = triple_from_noise(noise);
         let (c1, c2) = capsule(&key.a, &key.b, &triple);
-        let (pad, k1, k2) = derived(&triple);
-        let body = xor(entry.try_into().unwrap(), pad);
-        let mut record = put_header(b"PLG");
+        let (pad, k1, k2) = derived(&triple, 16);
+        let body = xor(entry, &pad);
+        let mut record = put_header(b"PLG", 1);
         put_words(&c1, &mut record);
         put_words(&c2, &mut record);
         record.extend_from_slice(&body);
-        record.extend_from_slice(&tag(k1, k2, body));
+        record.extend_from_slice(&tag(k1, k2, &body));
         sealed.copy_from_slice(&record);
         Ok(())
     };
@@ -572,15 +601,65 @@ pub fn open(secret_key: &[u8], sealed: &[u8], dummy_noise: &[u8], entry: &mut [u
     let mut work = || {
         judge_lengths(&[(secret_key.len(), 4357), (sealed.len(), 4133), (dummy_noise.len(), 1536), (entry.len(), 16)])?;
         let key = judge_secret_key(secret_key)?;
-        judge_header(b"PLG", sealed)?;
+        judge_header(b"PLG", 1, sealed)?;
         let capsule = elements(11, "sealed_entry", &["c1", "c2"], &sealed[5..4101])?;
         let triple = opened(&key, &capsule[0], &capsule[1], &triple_from_noise(dummy_noise))?;
-        let (pad, k1, k2) = derived(&triple);
-        let body: [u8; 16] = sealed[4101..4117].try_into().unwrap();
+        let (pad, k1, k2) = derived(&triple, 16);
+        let body = &sealed[4101..4117];
         if sealed[4117..] != tag(k1, k2, body) {
             return Err(10);
         }
-        entry.copy_from_slice(&xor(body, pad));
+        entry.copy_from_slice(&xor(body, &pad));
+        Ok(())
+    };
+    code(work())
+}
+
+pub fn seal_batch(public_key: &[u8], noise: &[u8], entries: &[u8], batch: &mut [u8]) -> u32 {
+    let mut work = || {
+        if entries.len() % 16 != 0 {
+            return Err(1);
+        }
+        let m = entries.len() / 16;
+        judge_count(m)?;
+        judge_lengths(&[(public_key.len(), public_key_length(public_key)), (noise.len(), 1536), (batch.len(), 4119 + 16 * m)])?;
+        let key = judge_public_key(public_key)?;
+        let triple = triple_from_noise(noise);
+        let (c1, c2) = capsule(&key.a, &key.b, &triple);
+        let (pad, k1, k2) = derived(&triple, 16 * m);
+        let body = xor(entries, &pad);
+        let mut record = put_header(b"PLG", 2);
+        put_words(&c1, &mut record);
+        put_words(&c2, &mut record);
+        record.extend_from_slice(&(m as u16).to_le_bytes());
+        record.extend_from_slice(&body);
+        record.extend_from_slice(&batch_tag(k1, k2, &body));
+        batch.copy_from_slice(&record);
+        Ok(())
+    };
+    code(work())
+}
+
+pub fn open_batch(secret_key: &[u8], batch: &[u8], dummy_noise: &[u8], entries: &mut [u8], count: &mut u32) -> u32 {
+    let mut work = || {
+        if batch.len() < 4119 {
+            return Err(1);
+        }
+        judge_lengths(&[(secret_key.len(), 4357), (dummy_noise.len(), 1536), (entries.len(), 4080)])?;
+        let key = judge_secret_key(secret_key)?;
+        judge_header(b"PLG", 2, batch)?;
+        let m = usize::from(batch[4101]) + 256 * usize::from(batch[4102]);
+        judge_count(m)?;
+        judge_lengths(&[(batch.len(), 4119 + 16 * m)])?;
+        let capsule = elements(11, "sealed_entry", &["c1", "c2"], &batch[5..4101])?;
+        let triple = opened(&key, &capsule[0], &capsule[1], &triple_from_noise(dummy_noise))?;
+        let (pad, k1, k2) = derived(&triple, 16 * m);
+        let (body, tag) = batch[4103..].split_at(16 * m);
+        if tag != batch_tag(k1, k2, body) {
+            return Err(10);
+        }
+        entries[..16 * m].copy_from_slice(&xor(body, &pad));
+        *count = m as u32;
         Ok(())
     };
     code(work())

@@ -1,9 +1,10 @@
 //! The vectors by other hands: files NAME.bin, with the names of their cases in NAME.txt where that is there too.
-//! A field is a 32-bit little-endian length and that many bytes; a case is its inputs, the number, the location in words, and the outputs.
+//! A field is a 32-bit little-endian length and that many bytes; a case is its inputs, the number, the location in words, the value where
+//! the call has one, and the outputs.
 use std::path::{Path, PathBuf};
 
 use super::answers;
-use super::cases::{run, Call, Calls, Case, Count, Outcome};
+use super::cases::{run, written_over, Call, Calls, Case, Count, Outcome, NO_VALUE};
 
 /// Where the file stands: in the folder POLKA_VECTORS or, where that has none of the name, with the program of the gate that works
 /// through it. So a folder may hold the files of one change alone.
@@ -69,13 +70,21 @@ pub fn number(field: &[u8]) -> u32 {
 /// Every case of one file. The last inputs are the lengths of the outputs.
 fn compare(calls: &Calls, what: &'static str, file: &str, call: Call, inputs: usize, outputs: usize) {
     let mut count = Count::new(what);
-    for vector in read(file, inputs + outputs, outputs) {
+    let values = usize::from(call == Call::OpenBatch);
+    for vector in read(file, inputs + outputs, values + outputs) {
         let lengths = vector.inputs[inputs..].iter().map(|field| number(field) as usize).collect();
         let case = Case { name: vector.name, call, inputs: vector.inputs[..inputs].to_vec(), outputs: lengths };
-        let actual = run(calls, &case);
-        // `run` has seen to it that a refusal leaves the outputs as they were.
-        let outputs = if vector.number == 0 { vector.outputs } else { actual.outputs.clone() };
-        count.add(&case.name, &Outcome { code: answers::code(vector.number, &vector.location), outputs }, &actual);
+        let code = answers::code(vector.number, &vector.location);
+        let (value, written) = vector.outputs.split_at(values);
+        let value = match value {
+            [field] if code == 0 => number(field),
+            _ => NO_VALUE,
+        };
+        // nothing is written under a refusal, and of the output for a batch only its entries are
+        let all = |first: &[u8], length: usize| code != 0 || call == Call::OpenBatch || first.len() == length;
+        assert!(written.iter().zip(&case.outputs).all(|(first, &length)| all(first, length)), "{}: an output in part", case.name);
+        let outputs = written.iter().zip(&case.outputs).map(|(first, &length)| written_over(length, first)).collect();
+        count.add(&case.name, &Outcome { code, value, outputs }, &run(calls, &case));
     }
     count.finish();
 }
@@ -113,6 +122,14 @@ pub fn compare_open_sealed_before(calls: &Calls) {
     compare(calls, "vectors, entries sealed before", "open_sealed_before", Call::Open, 3, 1);
 }
 
+pub fn compare_seal_batch(calls: &Calls) {
+    compare(calls, "vectors, seal_batch", "seal_batch", Call::SealBatch, 3, 1);
+}
+
+pub fn compare_open_batch(calls: &Calls) {
+    compare(calls, "vectors, open_batch", "open_batch", Call::OpenBatch, 3, 1);
+}
+
 pub fn compare_shake128(calls: &Calls) {
     compare(calls, "vectors, shake128", "shake128", Call::Shake128, 1, 1);
 }
@@ -127,7 +144,7 @@ pub fn desk_line(calls: &Calls, input: &[u8]) -> (u32, String) {
         return (1, "1 -\n".into());
     }
     let inputs = vec![input[..4357].to_vec(), input[4357..8490].to_vec(), input[8490..].to_vec()];
-    let Outcome { code, outputs } = run(calls, &Case { name: "desk".into(), call: Call::Open, inputs, outputs: vec![16] });
+    let Outcome { code, outputs, .. } = run(calls, &Case { name: "desk".into(), call: Call::Open, inputs, outputs: vec![16] });
     if code != 0 {
         return (code, format!("{} -\n", answers::number(code)));
     }

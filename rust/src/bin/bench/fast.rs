@@ -331,26 +331,48 @@ fn xor(x: [u8; 16], y: [u8; 16]) -> [u8; 16] {
     (u128::from_le_bytes(x) ^ u128::from_le_bytes(y)).to_le_bytes()
 }
 
-struct Keys {
-    keystream: [u8; 16],
-    k1: [u8; 16],
-    k2: [u8; 16],
+fn block(bytes: &[u8]) -> [u8; 16] {
+    bytes.try_into().unwrap()
 }
 
-fn derived(triple: &[u8; 768]) -> Keys {
+/// One comparison of the whole tag.
+fn same(x: [u8; 16], y: [u8; 16]) -> bool {
+    u128::from_le_bytes(x) == u128::from_le_bytes(y)
+}
+
+fn put_xor(x: &[u8], y: &[u8], out: &mut [u8]) {
+    for ((out, x), y) in out.iter_mut().zip(x).zip(y) {
+        *out = x ^ y;
+    }
+}
+
+pub struct Keys {
+    pub k1: [u8; 16],
+    pub k2: [u8; 16],
+}
+
+/// The tag's keys; the keystream is written as long as it is lent.
+fn derived(triple: &[u8; 768], keystream: &mut [u8]) -> Keys {
     let mut input = [1u8; 769];
     input[1..].copy_from_slice(triple);
     let mut k = [0u8; 48];
     shake256(&input, &mut k);
     let mut seed = [2u8; 17];
     seed[1..].copy_from_slice(&k[..16]);
-    let mut keystream = [0u8; 16];
-    shake256(&seed, &mut keystream);
-    Keys { keystream, k1: k[16..32].try_into().unwrap(), k2: k[32..].try_into().unwrap() }
+    shake256(&seed, keystream);
+    Keys { k1: block(&k[16..32]), k2: block(&k[32..]) }
 }
 
 fn tag(keys: &Keys, body: [u8; 16]) -> [u8; 16] {
     xor(field_product(keys.k1, body), keys.k2)
+}
+
+/// By Horner's rule: the count, then block after block.
+pub fn batch_tag(keys: &Keys, body: &[u8]) -> [u8; 16] {
+    let mut count = [0; 16];
+    count[..2].copy_from_slice(&((body.len() / 16) as u16).to_le_bytes());
+    let value = body.chunks_exact(16).fold(count, |value, bytes| xor(field_product(keys.k1, value), block(bytes)));
+    tag(keys, value)
 }
 
 // ---- bytes
@@ -432,10 +454,10 @@ fn encode_triple(triple: &[Element; 3]) -> [u8; 768] {
     bytes
 }
 
-fn judge_header(record: &[u8], mark: &[u8; 3]) -> Result<(), u32> {
+fn judge_header(record: &[u8], mark: &[u8; 3], version: u8) -> Result<(), u32> {
     if record[..3] != *mark {
         Err(2)
-    } else if record[3..5] != [1, 0] {
+    } else if record[3..5] != [version, 0] {
         Err(3)
     } else {
         Ok(())
@@ -464,9 +486,9 @@ fn judge_words(record: u32, parts: &[(u32, &Element)]) -> Result<(), u32> {
     Ok(())
 }
 
-fn put_header(record: &mut [u8], mark: &[u8; 3]) {
+fn put_header(record: &mut [u8], mark: &[u8; 3], version: u8) {
     record[..3].copy_from_slice(mark);
-    record[3..5].copy_from_slice(&[1, 0]);
+    record[3..5].copy_from_slice(&[version, 0]);
 }
 
 // ---- keys: elements and spectra
@@ -483,12 +505,12 @@ fn is_public_key_length(length: usize) -> bool {
 /// Spectra of a and b. The length picks the record.
 fn judge_public_key(record: &[u8], w: &Factors) -> Result<PublicKey, u32> {
     let (a, b) = if record.len() == 2085 {
-        judge_header(record, b"PDS")?;
+        judge_header(record, b"PDS", 1)?;
         let b = words(&record[37..]);
         judge_words(SEEDED_PUBLIC_KEY, &[(B, &b)])?;
         (seeded(&record[5..37]).ok_or(8u32)?, b)
     } else {
-        judge_header(record, b"PDK")?;
+        judge_header(record, b"PDK", 1)?;
         let (a, b) = (words(&record[5..2053]), words(&record[2053..]));
         judge_words(PUBLIC_KEY, &[(A, &a), (B, &b)])?;
         (a, b)
@@ -508,7 +530,7 @@ struct SecretKey {
 }
 
 fn judge_secret_key(record: &[u8], w: &Factors, v: &Factors) -> Result<SecretKey, u32> {
-    judge_header(record, b"SDK")?;
+    judge_header(record, b"SDK", 1)?;
     let (a, b) = (words(&record[5..2053]), words(&record[2053..4101]));
     judge_words(SECRET_KEY, &[(A, &a), (B, &b)])?;
     if !codes_valid(&record[4101..]) {
@@ -561,7 +583,7 @@ fn new_key(a: &Element, noise_s: &[u8], noise_e: &[u8]) -> Option<[Element; 2]> 
 }
 
 fn put_secret_key(record: &mut [u8], a: &Element, b: &Element, s: &Element) {
-    put_header(record, b"SDK");
+    put_header(record, b"SDK", 1);
     put_words(a, &mut record[5..2053]);
     put_words(b, &mut record[2053..4101]);
     encode(s, &mut record[4101..]);
@@ -609,7 +631,7 @@ pub fn keygen(stream: &[u8], noise_s: &[u8], noise_e: &[u8], public_key: &mut [u
     }
     let Some(a) = uniform(stream) else { return 8 };
     let Some([b, s]) = new_key(&a, noise_s, noise_e) else { return 6 };
-    put_header(public_key, b"PDK");
+    put_header(public_key, b"PDK", 1);
     put_words(&a, &mut public_key[5..2053]);
     put_words(&b, &mut public_key[2053..]);
     put_secret_key(secret_key, &a, &b, &s);
@@ -622,7 +644,7 @@ pub fn keygen_from_seed(seed: &[u8], noise_s: &[u8], noise_e: &[u8], public_key:
     }
     let Some(a) = seeded(seed) else { return 8 };
     let Some([b, s]) = new_key(&a, noise_s, noise_e) else { return 6 };
-    put_header(public_key, b"PDS");
+    put_header(public_key, b"PDS", 1);
     public_key[5..37].copy_from_slice(seed);
     put_words(&b, &mut public_key[37..]);
     put_secret_key(secret_key, &a, &b, &s);
@@ -692,9 +714,10 @@ pub fn seal(public_key: &[u8], noise: &[u8], entry: &[u8], sealed: &mut [u8]) ->
     };
     let triple = triple_from_noise(noise);
     let [c1, c2] = capsule(&key.a, &key.b, &triple, &w, &v);
-    let keys = derived(&encode_triple(&triple));
-    let body = xor(entry.try_into().unwrap(), keys.keystream);
-    put_header(sealed, b"PLG");
+    let mut keystream = [0; 16];
+    let keys = derived(&encode_triple(&triple), &mut keystream);
+    let body = xor(block(entry), keystream);
+    put_header(sealed, b"PLG", 1);
     put_words(&c1, &mut sealed[5..2053]);
     put_words(&c2, &mut sealed[2053..4101]);
     sealed[4101..4117].copy_from_slice(&body);
@@ -702,29 +725,93 @@ pub fn seal(public_key: &[u8], noise: &[u8], entry: &[u8], sealed: &mut [u8]) ->
     0
 }
 
+/// The coded triple of a sealed entry or a batch, whose front, before c1, is judged behind the key. Not inlined it takes a twentieth more.
+#[inline(always)]
+fn opened_record(secret_key: &[u8], front: Result<(), u32>, record: &[u8], dummy_noise: &[u8]) -> Result<[u8; 768], u32> {
+    let (w, v) = (forward_factors(), backward_factors());
+    let key = judge_secret_key(secret_key, &w, &v)?;
+    front?;
+    let (c1, c2) = (words(&record[5..2053]), words(&record[2053..4101]));
+    judge_words(SEALED_ENTRY, &[(C1, &c1), (C2, &c2)])?;
+    let triple = opened(&key, &c1, &c2, &triple_from_noise(dummy_noise), &w, &v).ok_or(9u32)?;
+    Ok(encode_triple(&triple))
+}
+
 pub fn open(secret_key: &[u8], sealed: &[u8], dummy_noise: &[u8], entry: &mut [u8]) -> u32 {
     if secret_key.len() != 4357 || sealed.len() != 4133 || dummy_noise.len() != 1536 || entry.len() != 16 {
         return 1;
     }
+    let triple = match opened_record(secret_key, judge_header(sealed, b"PLG", 1), sealed, dummy_noise) {
+        Ok(triple) => triple,
+        Err(code) => return code,
+    };
+    let mut keystream = [0; 16];
+    let keys = derived(&triple, &mut keystream);
+    let body = block(&sealed[4101..4117]);
+    if !same(tag(&keys, body), block(&sealed[4117..])) {
+        return 10;
+    }
+    entry.copy_from_slice(&xor(body, keystream));
+    0
+}
+
+pub fn seal_batch(public_key: &[u8], noise: &[u8], entries: &[u8], batch: &mut [u8]) -> u32 {
+    if entries.len() % 16 != 0 {
+        return 1;
+    }
+    if entries.is_empty() || entries.len() > 4080 {
+        return 12;
+    }
+    if !is_public_key_length(public_key.len()) || noise.len() != 1536 || batch.len() != 4119 + entries.len() {
+        return 1;
+    }
     let (w, v) = (forward_factors(), backward_factors());
-    let key = match judge_secret_key(secret_key, &w, &v) {
+    let key = match judge_public_key(public_key, &w) {
         Ok(key) => key,
         Err(code) => return code,
     };
-    if let Err(code) = judge_header(sealed, b"PLG") {
-        return code;
+    let triple = triple_from_noise(noise);
+    let [c1, c2] = capsule(&key.a, &key.b, &triple, &w, &v);
+    let mut keystream = [0; 4080];
+    let keys = derived(&encode_triple(&triple), &mut keystream[..entries.len()]);
+    put_header(batch, b"PLG", 2);
+    put_words(&c1, &mut batch[5..2053]);
+    put_words(&c2, &mut batch[2053..4101]);
+    batch[4101..4103].copy_from_slice(&((entries.len() / 16) as u16).to_le_bytes());
+    let (body, end) = batch[4103..].split_at_mut(entries.len());
+    put_xor(entries, &keystream, body);
+    end.copy_from_slice(&batch_tag(&keys, body));
+    0
+}
+
+/// The version, the count, and the length that fits it.
+fn judge_batch_front(batch: &[u8], m: usize) -> Result<(), u32> {
+    judge_header(batch, b"PLG", 2)?;
+    if !(1..=255).contains(&m) {
+        return Err(12);
     }
-    let (c1, c2) = (words(&sealed[5..2053]), words(&sealed[2053..4101]));
-    if let Err(code) = judge_words(SEALED_ENTRY, &[(C1, &c1), (C2, &c2)]) {
-        return code;
+    if batch.len() != 4119 + 16 * m {
+        return Err(1);
     }
-    let Some(triple) = opened(&key, &c1, &c2, &triple_from_noise(dummy_noise), &w, &v) else { return 9 };
-    let keys = derived(&encode_triple(&triple));
-    let body: [u8; 16] = sealed[4101..4117].try_into().unwrap();
-    // one comparison of the whole tag
-    if u128::from_le_bytes(tag(&keys, body)) != u128::from_le_bytes(sealed[4117..].try_into().unwrap()) {
+    Ok(())
+}
+
+pub fn open_batch(secret_key: &[u8], batch: &[u8], dummy_noise: &[u8], entries: &mut [u8], count: &mut u32) -> u32 {
+    if secret_key.len() != 4357 || batch.len() < 4119 || dummy_noise.len() != 1536 || entries.len() != 4080 {
+        return 1;
+    }
+    let m = usize::from(u16::from_le_bytes([batch[4101], batch[4102]]));
+    let triple = match opened_record(secret_key, judge_batch_front(batch, m), batch, dummy_noise) {
+        Ok(triple) => triple,
+        Err(code) => return code,
+    };
+    let mut keystream = [0; 4080];
+    let keys = derived(&triple, &mut keystream[..16 * m]);
+    let (body, end) = batch[4103..].split_at(16 * m);
+    if !same(batch_tag(&keys, body), block(end)) {
         return 10;
     }
-    entry.copy_from_slice(&xor(body, keys.keystream));
+    put_xor(body, &keystream, &mut entries[..16 * m]);
+    *count = m as u32;
     0
 }

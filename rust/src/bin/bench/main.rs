@@ -1,5 +1,6 @@
 //! The proved library beside its peers, all in one run: SHAKE128 and SHAKE256 beside OpenSSL's, every call beside the same algorithm in
-//! Rust, and keys, sealing and opening beside Botan's NewHope-1024. The two sides of a line take turns, and the least time of each counts.
+//! Rust, keys, sealing and opening beside Botan's NewHope-1024, and an entry of a batch beside one alone. The two sides of a line take
+//! turns, and the least time of each counts.
 mod botan;
 mod fast;
 #[allow(dead_code)]
@@ -46,9 +47,13 @@ fn in_turn(rounds: u32, calls: u32, mut ours: impl FnMut(), mut theirs: impl FnM
     })
 }
 
-fn heading(peer: &str) {
-    println!("\n{peer}");
-    println!("{:<44} {:>12} {:>12} {:>12}", "", "ours", "peer", "peer / ours");
+fn heading(title: &str) {
+    columns(title, ["ours", "peer", "peer / ours"]);
+}
+
+fn columns(title: &str, names: [&str; 3]) {
+    println!("\n{title}");
+    println!("{:<44} {:>12} {:>12} {:>12}", "", names[0], names[1], names[2]);
 }
 
 fn line(what: &str, (ours, theirs): (f64, f64)) {
@@ -69,7 +74,7 @@ fn beside_openssl() {
     heading(&format!("SHAKE128 and SHAKE256 beside {} (EVP, one context)", openssl::version()));
     // what a seed is turned into, and a long message
     hash(c"SHAKE128", polka::shake128, &[(32, 2688), (1 << 20, 32)]);
-    hash(c"SHAKE256", polka::shake256, &[(769, 48), (17, 16), (1 << 20, 32), (32, 1 << 14)]);
+    hash(c"SHAKE256", polka::shake256, &[(769, 48), (17, 16), (17, 4080), (1 << 20, 32), (32, 1 << 14)]);
 }
 
 /// A line for each pair of lengths.
@@ -104,8 +109,15 @@ struct Records {
     noise: Vec<u8>,
     entry: Vec<u8>,
     sealed: Vec<u8>,
+    /// Of the largest batch; others have the first of them.
+    entries: Vec<u8>,
+    /// Of each size.
+    batches: [(usize, Vec<u8>); 3],
     dummy_noise: Vec<u8>,
 }
+
+/// The least, a small and the largest batch.
+const SIZES: [usize; 3] = [1, 16, 255];
 
 impl Records {
     fn new() -> Records {
@@ -123,6 +135,12 @@ impl Records {
         assert_eq!(ffi::keygen(&stream, &noise_s, &noise_e, &mut public_key, &mut secret_key), 0);
         assert_eq!(ffi::encapsulate(&public_key, &triple, &mut encapsulation), 0);
         assert_eq!(ffi::seal(&public_key, &noise, &entry, &mut sealed), 0);
+        let entries = bytes(8, 4080);
+        let batches = SIZES.map(|count| {
+            let mut batch = vec![0; batch_length(count)];
+            assert_eq!(ffi::seal_batch(&public_key, &noise, &entries[..16 * count], &mut batch), 0);
+            (count, batch)
+        });
         let made = Records {
             seed,
             stream,
@@ -136,6 +154,8 @@ impl Records {
             noise,
             entry,
             sealed,
+            entries,
+            batches,
             dummy_noise,
         };
         made.agree();
@@ -183,6 +203,21 @@ impl Records {
             assert_eq!(open(&self.secret_key, &self.sealed, &self.dummy_noise, &mut entry), 0);
             assert!(entry == self.entry, "the entries differ");
         }
+        for (count, expected) in &self.batches {
+            for public_key in [&self.public_key, &self.seeded_public_key] {
+                for seal_batch in [ffi::seal_batch, fast::seal_batch] {
+                    let mut batch = vec![0; expected.len()];
+                    assert_eq!(seal_batch(public_key, &self.noise, &self.entries[..16 * count], &mut batch), 0);
+                    assert!(batch == *expected, "the batches differ");
+                }
+            }
+            for open_batch in [ffi::open_batch, fast::open_batch] {
+                let (mut entries, mut opened) = (vec![0; 4080], 0);
+                assert_eq!(open_batch(&self.secret_key, expected, &self.dummy_noise, &mut entries, &mut opened), 0);
+                let same = opened as usize == *count && entries[..16 * count] == self.entries[..16 * count];
+                assert!(same, "the entries of a batch differ");
+            }
+        }
         for decapsulate in [ffi::decapsulate, fast::decapsulate] {
             let mut triple = vec![0; 768];
             assert_eq!(decapsulate(&self.secret_key, &self.encapsulation, &self.triple, &mut triple), 0);
@@ -193,6 +228,7 @@ impl Records {
 
 type Keygen = fn(&[u8], &[u8], &[u8], &mut [u8], &mut [u8]) -> u32;
 type ThreeIn = fn(&[u8], &[u8], &[u8], &mut [u8]) -> u32;
+type OpenBatch = fn(&[u8], &[u8], &[u8], &mut [u8], &mut u32) -> u32;
 type TwoIn = fn(&[u8], &[u8], &mut [u8]) -> u32;
 
 /// `source` is a stream or a seed.
@@ -209,15 +245,32 @@ fn three_in<'a>(call: ThreeIn, inputs: [&'a [u8]; 3], output: usize) -> impl FnM
     move || assert_eq!(call(black_box(inputs[0]), black_box(inputs[1]), black_box(inputs[2]), black_box(&mut out)), 0)
 }
 
+fn batch_length(count: usize) -> usize {
+    4119 + 16 * count
+}
+
+fn seal_batch_of<'a>(call: ThreeIn, key: &'a [u8], count: usize, records: &'a Records) -> impl FnMut() + 'a {
+    three_in(call, [key, &records.noise, &records.entries[..16 * count]], batch_length(count))
+}
+
+fn open_batch_of<'a>(call: OpenBatch, batch: &'a [u8], records: &'a Records) -> impl FnMut() + 'a {
+    let (mut entries, mut count) = (vec![0; 4080], 0);
+    move || {
+        let (key, dummy) = (black_box(&records.secret_key), black_box(&records.dummy_noise));
+        assert_eq!(call(key, black_box(batch), dummy, black_box(&mut entries), &mut count), 0);
+    }
+}
+
 fn two_in<'a>(call: TwoIn, inputs: [&'a [u8]; 2], output: usize) -> impl FnMut() + 'a {
     let mut out = vec![0; output];
     move || assert_eq!(call(black_box(inputs[0]), black_box(inputs[1]), black_box(&mut out)), 0)
 }
 
+const ROUNDS: u32 = 150;
+const CALLS: u32 = 10;
+
 fn beside_rust(records: &Records) {
     heading("Calls beside the same algorithm in Rust");
-    const ROUNDS: u32 = 150;
-    const CALLS: u32 = 10;
     let Records { seed, stream, public_key, seeded_public_key, secret_key, triple, .. } = records;
     let Records { encapsulation, noise, entry, sealed, dummy_noise, .. } = records;
     let product = |call| two_in(call, records.elements(), 2048);
@@ -240,13 +293,41 @@ fn beside_rust(records: &Records) {
     }
     let open = |call| three_in(call, [secret_key, sealed, dummy_noise], 16);
     line("open", in_turn(ROUNDS, CALLS, open(ffi::open), open(fast::open)));
+    for (count, _) in &records.batches {
+        let seal_batch = |call| seal_batch_of(call, public_key, *count, records);
+        line(&format!("seal a batch of {count}"), in_turn(ROUNDS, CALLS, seal_batch(ffi::seal_batch), seal_batch(fast::seal_batch)));
+    }
+    for (count, batch) in &records.batches {
+        let open_batch = |call| open_batch_of(call, batch, records);
+        line(&format!("open a batch of {count}"), in_turn(ROUNDS, CALLS, open_batch(ffi::open_batch), open_batch(fast::open_batch)));
+    }
+}
+
+/// What an entry costs in a batch, and alone: the batch's cycles and bytes over the count of its entries.
+fn entries_of_batches(records: &Records) {
+    columns("An entry in a batch beside an entry alone", ["in a batch", "alone", "alone/batch"]);
+    let Records { public_key, secret_key, noise, entry, sealed, dummy_noise, .. } = records;
+    let each = |count: usize, (batch, alone): (f64, f64)| (batch / count as f64, alone);
+    for (count, _) in &records.batches {
+        let alone = three_in(ffi::seal, [public_key, noise, entry], 4133);
+        let times = in_turn(ROUNDS, CALLS, seal_batch_of(ffi::seal_batch, public_key, *count, records), alone);
+        line(&format!("seal, one of {count}"), each(*count, times));
+    }
+    for (count, batch) in &records.batches {
+        let alone = three_in(ffi::open, [secret_key, sealed, dummy_noise], 16);
+        let times = in_turn(ROUNDS, CALLS, open_batch_of(ffi::open_batch, batch, records), alone);
+        line(&format!("open, one of {count}"), each(*count, times));
+    }
+    for (count, batch) in &records.batches {
+        line(&format!("bytes on the line, one of {count}"), each(*count, (batch.len() as f64, sealed.len() as f64)));
+    }
 }
 
 /// Where the time goes, by the peer in Rust: the archive exports whole calls only.
 fn parts(records: &Records) {
     println!("\nParts of the calls, in Rust");
     let alone = |what: &str, call: &mut dyn FnMut()| {
-        let least = (0..150).fold(f64::MAX, |least, _| least.min(time(20, &mut || call())));
+        let least = (0..ROUNDS).fold(f64::MAX, |least, _| least.min(time(20, &mut || call())));
         println!("{what:<44} {least:>12.0}");
     };
     let (w, v) = (fast::forward_factors(), fast::backward_factors());
@@ -277,8 +358,14 @@ fn parts(records: &Records) {
     });
     let mut out = [0; 48];
     alone("SHAKE256 of a triple (seal 1, open 1)", &mut || fast::shake256(black_box(&records.sealed[..769]), black_box(&mut out)));
+    let mut keystream = [0; 4080];
     alone("product in the tag's field (seal 1, open 1)", &mut || {
         black_box(fast::field_product(black_box([0x5a; 16]), black_box([0xc3; 16])));
+    });
+    alone("keystream of a batch of 255", &mut || fast::shake256(black_box(&records.sealed[..17]), black_box(&mut keystream)));
+    let keys = fast::Keys { k1: [0x5a; 16], k2: [0xc3; 16] };
+    alone("tag of a batch of 255", &mut || {
+        black_box(fast::batch_tag(black_box(&keys), black_box(&records.entries)));
     });
 }
 
@@ -339,6 +426,7 @@ fn main() {
     beside_openssl();
     let records = Records::new();
     beside_rust(&records);
+    entries_of_batches(&records);
     parts(&records);
     if cfg!(target_arch = "x86_64") {
         beside_newhope(&records);
