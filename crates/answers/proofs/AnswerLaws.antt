@@ -63,6 +63,16 @@ unless-failed r a e = rw e
 pub then-passed : {a : Answer} (b : Answer) → a ≡ Done → andThen a b ≡ b
 then-passed b e = rw e
 
+-- a test on its own, before what follows
+pub unless-then : (t : Bool) (r : Refusal) (a : Answer) → andThen (unless t r Done) a ≡ unless t r a
+unless-then true r a = refl
+unless-then false r a = refl
+
+-- where nothing follows
+pub then-nothing : (a : Answer) → andThen a Done ≡ a
+then-nothing Done = refl
+then-nothing (Refused r) = refl
+
 pub then-failed : {a : Answer} {r : Refusal} (b : Answer) → a ≡ Refused r → andThen a b ≡ Refused r
 then-failed b e = rw e
 
@@ -97,6 +107,18 @@ then-says {a = Refused r} b first = (λ e. absurd (first .never e), λ (p, e). a
 pub unless-refuses : (t : Bool) (r : Refusal) → (number (unless t r Done) ≡ refusalNumber r) ↔ (t ≡ false)
 unless-refuses true r = (λ e. absurd (refusal-not-zero r (sym e)), λ p. absurd (true≢false p))
 unless-refuses false r = (λ e. refl, λ p. refl)
+
+-- a test that says its number where F does not hold; no check behind it has that number
+pub fails-here : {t : Bool} {F : Type 0} (r : Refusal) {a : Answer} → (t ≡ true) ↔ F → Never (refusalNumber r) a
+    → (number (unless t r a) ≡ refusalNumber r) ↔ ¬ F
+fails-here {t = true} r f rest = (λ e. absurd (rest .never e), λ none. absurd (none (f .0 refl)))
+fails-here {t = false} r f rest = (λ e h. false≢true (f .1 h), λ none. refl)
+
+-- .. or a check behind it has that number, where G holds
+pub fails-or : {t : Bool} {F G : Type 0} (r : Refusal) (a : Answer) → (t ≡ true) ↔ F → (F × (number a ≡ refusalNumber r)) ↔ G
+    → (number (unless t r a) ≡ refusalNumber r) ↔ (¬ F ⊎ G)
+fails-or {t = true} r a f g = (λ e. inr (g .0 (f .0 refl, e)), ⊎-elim (λ none. absurd (none (f .0 refl))) (λ h. g .1 h .1))
+fails-or {t = false} r a f g = (λ e. inl (λ h. false≢true (f .1 h)), λ e. refl)
 
 pub then-refuses : {n : ℕ} (a : Answer) {b : Answer} → 0 < n → Never n b → (number (andThen a b) ≡ n) ↔ (number a ≡ n)
 then-refuses Done some rest = (λ e. absurd (rest .never e), λ e. absurd (omega arith))

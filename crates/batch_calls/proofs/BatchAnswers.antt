@@ -1,8 +1,8 @@
 -- What the tests and checks in both calls on batches say: a key's numbers behind the tests of sealing; 1 and 12, the word that 11 names,
 -- and which numbers the checks of a batch never say.
 use mathlib.Core.Path.{_≡_, refl}
-use mathlib.Core.Bool.{Bool, true, false, false≢true}
-use mathlib.Core.Logic.{_↔_, _⊎_, inl, inr, ⊎-elim, Iff·rfl, Iff·trans, Iff·and}
+use mathlib.Core.Bool.{true}
+use mathlib.Core.Logic.{_↔_, Iff·rfl, Iff·trans, Iff·and}
 use mathlib.Core.List.{List}
 use Prim.Native.Nat.{ℕ, _%_, _<_}
 use native.Mathlib.Omega.{arith}
@@ -12,14 +12,12 @@ use Rattle.scheme.specs.Scheme.{Outcome}
 use Rattle.encoding.specs.Header.{hasMark, versionOf}
 use Rattle.encoding.proofs.Words.{length-elementOf}
 use Rattle.answers.specs.declared.EncapsulationRecord.the-variants.{SealedEntry}
-use Rattle.answers.specs.declared.Refusal.{Refusal}
 use Rattle.answers.specs.declared.Refusal.the-variants.{WrongLength, WrongCount}
-use Rattle.answers.specs.declared.Answer.{Answer}
 use Rattle.answers.specs.declared.Answer.the-variants.{Done}
 use Rattle.answers.specs.declared.Location.{Location}
-use Rattle.answers.specs.Answers.{refusalNumber, number, unless, andThen}
+use Rattle.answers.specs.Answers.{number, unless, andThen}
 use Rattle.answers.specs.Locations.{sealedEntry, c1Part, c2Part, Names}
-use Rattle.answers.proofs.AnswerLaws.{Never, unless-never, then-never, unless-says, then-says, then-refuses, unless-names, then-names}
+use Rattle.answers.proofs.AnswerLaws.{Never, unless-never, then-never, unless-says, then-says, fails-here, then-refuses, unless-names, then-names}
 use Rattle.records.specs.Layout.{sealedEntryMark}
 use Rattle.records.specs.Records.{c1Word, c2Word, elementsAnswer, firstOf, secondOf}
 use Rattle.records.specs.Named.{NamedInTwo}
@@ -37,20 +35,6 @@ use Rattle.calls.proofs.LocatedExact.{accepted}
 use Rattle.batch_calls.specs.Calls.{entries, sealBatchAnswer, batchOutcome}
 use Rattle.batch_calls.specs.Promises.{SealingFits, OpeningFits, WholeEntries, BeforeCount}
 use Rattle.batch_calls.proofs.Lengths.{count-iff, sealing-fits}
-
--- ---- a test that says its number where F does not hold
-
--- no check behind it has that number
-pub fails-here : {t : Bool} {F : Type 0} (r : Refusal) {a : Answer} → (t ≡ true) ↔ F → Never (refusalNumber r) a
-    → (number (unless t r a) ≡ refusalNumber r) ↔ ¬ F
-fails-here {t = true} r f rest = (λ e. absurd (rest .never e), λ none. absurd (none (f .0 refl)))
-fails-here {t = false} r f rest = (λ e h. false≢true (f .1 h), λ none. refl)
-
--- a check behind it says the same number where G holds
-pub fails-or : {t : Bool} {F G : Type 0} (r : Refusal) (a : Answer) → (t ≡ true) ↔ F → (F × (number a ≡ refusalNumber r)) ↔ G
-    → (number (unless t r a) ≡ refusalNumber r) ↔ (¬ F ⊎ G)
-fails-or {t = true} r a f g = (λ e. inr (g .0 (f .0 refl, e)), ⊎-elim (λ none. absurd (none (f .0 refl))) (λ h. g .1 h .1))
-fails-or {t = false} r a f g = (λ e. inl (λ h. false≢true (f .1 h)), λ e. refl)
 
 -- ---- sealing: what the key's checks say, behind the tests
 

@@ -4,7 +4,7 @@ use Prim.Native.Nat.{_%_}
 use native.Mathlib.Omega.{arith}
 use lib.ListN.{length}
 use Rattle.answers.specs.declared.Refusal.the-variants.{WrongCount}
-use Rattle.answers.proofs.AnswerLaws.{then-never}
+use Rattle.answers.proofs.AnswerLaws.{then-never, fails-here}
 use Rattle.records.specs.Layout.{secretKeyLength}
 use Rattle.records.specs.Records.{firstOf, secondOf, bodyPart, tagPart, c1Of, c2Of}
 use Rattle.triples.specs.Triple.{tripleOf}
@@ -19,7 +19,7 @@ use Rattle.calls.proofs.LocatedExact.{never-after-lengths, keygen-others, seede
 use Rattle.batch_calls.specs.Calls.{entries, sealBatchAnswer, openBatchAnswer}
 use Rattle.batch_calls.specs.Promises.{WrongCountExact}
 use Rattle.batch_calls.proofs.Lengths.{count-iff, sealing-fits, opening-fits}
-use Rattle.batch_calls.proofs.BatchAnswers.{fails-here, batch-says-12, batch-says}
+use Rattle.batch_calls.proofs.BatchAnswers.{batch-says-12, batch-says}
 
 pub wrong-count-exact : WrongCountExact
 unfolding sealBatchAnswer openBatchAnswer checkAnswer encapsulateAnswer decapsulateAnswer sealAnswer openAnswer

@@ -4,14 +4,14 @@ use Prim.Native.Nat.{_%_}
 use native.Mathlib.Omega.{arith}
 use lib.ListN.{length}
 use Rattle.answers.specs.declared.Refusal.the-variants.{WrongLength, WrongCount}
-use Rattle.answers.proofs.AnswerLaws.{unless-says}
+use Rattle.answers.proofs.AnswerLaws.{unless-says, fails-here, fails-or}
 use Rattle.batch_records.specs.Batches.{count?}
 use Rattle.public_keys.proofs.PublicLaws.{public-never}
 use Rattle.calls.proofs.Lengths.{one-fits}
 use Rattle.batch_calls.specs.Calls.{entries, sealBatchAnswer, openBatchAnswer}
 use Rattle.batch_calls.specs.Promises.{WrongLengthExact}
 use Rattle.batch_calls.proofs.Lengths.{count-iff, sealing-fits, opening-fits}
-use Rattle.batch_calls.proofs.BatchAnswers.{fails-here, fails-or, batch-says-1, batch-says}
+use Rattle.batch_calls.proofs.BatchAnswers.{batch-says-1, batch-says}
 
 pub wrong-length-exact : WrongLengthExact
 unfolding sealBatchAnswer openBatchAnswer

@@ -78,7 +78,7 @@ pub record WrongLengthExact : Type 0 where
       ↔ (¬ (OpeningFits k batch noise room)
       ⊎ (BeforeCount k batch noise room × Count (countOf batch) × ¬ (length batch ≡ batchLength (countOf batch))))
 
--- 12, and no call that is lent no batch says it
+-- 12, and none of the other calls says it
 pub record WrongCountExact : Type 0 where
   pub seal : (k noise blocks : List ℕ) (room : ℕ)
       → (number (sealBatchAnswer k noise blocks room) ≡ 12) ↔ ((length blocks % 16 ≡ 0) × ¬ (Count (entries blocks)))

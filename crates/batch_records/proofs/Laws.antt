@@ -9,7 +9,6 @@ use lib.ListN.{length}
 use borrow.Author.Tests.{eqb-true, leb-true}
 use Rattle.lists.proofs.ByteLists.{Small}
 use Rattle.answers.specs.declared.EncapsulationRecord.the-variants.{SealedEntry}
-use Rattle.answers.specs.declared.Refusal.{Refusal}
 use Rattle.answers.specs.declared.Refusal.the-variants.{WrongLength, WrongCount}
 use Rattle.answers.specs.declared.Answer.{Answer}
 use Rattle.answers.specs.declared.Answer.the-variants.{Done}
@@ -24,11 +23,6 @@ use Rattle.batch_records.specs.Read.{countAnswer, bodyLength}
 pub count-fits : (bytes : List ℕ) → Small bytes → countOf bytes ≤ 65535
 unfolding countOf
 count-fits bytes small = omega (arith, small 4101, small 4102)
-
--- a test on its own, before what follows
-pub unless-then : (passes : Bool) (r : Refusal) (a : Answer) → andThen (unless passes r Done) a ≡ unless passes r a
-unless-then true r a = refl
-unless-then false r a = refl
 
 -- the checks of a batch are those of a front of version 2, with the count in between
 pub batch-front : (bytes : List ℕ) → sealedFrontAnswer 2 (countAnswer (countOf bytes) (length bytes)) bytes ≡ batchAnswer bytes

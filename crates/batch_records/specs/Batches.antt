@@ -41,7 +41,7 @@ entriesLength = 4080
 
 -- 16 bits, the low byte first
 unfoldable pub countOf : List ℕ → ℕ
-countOf bytes = getD bytes 4101 0 + 256 * getD bytes 4102 0
+countOf bytes = getD bytes countPlace 0 + 256 * getD bytes (countPlace + 1) 0
 
 abbrev pub countBytes : (m : ℕ) → List ℕ
 countBytes m = m % 256 ∷ m / 256 % 256 ∷ []

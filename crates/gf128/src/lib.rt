@@ -1,7 +1,7 @@
 // The field of 2^128 elements modulo x^128 + x^7 + x^2 + x + 1, its elements as 16 bytes, and the tag over blocks of 16 bytes. No branch and no
 // index depends on a byte: a bit selects by multiplication, and a comparison looks at every byte.
 ghost use mathlib.Core.Path.{_≡_};
-ghost use mathlib.Core.List.{[], _∷_, _++_};
+ghost use mathlib.Core.List.{_++_};
 ghost use Prim.Native.Nat.{_+_, _*_, _/_, _%_, _<_, _≤_};
 ghost use lib.Bits.{bitXor};
 ghost use lib.ListN.{length};

@@ -1,5 +1,5 @@
 -- Encapsulation and sealing with a key that is given by its spectra.
-use mathlib.Core.Path.{_≡_, refl, ap, ap₂, _∙_}
+use mathlib.Core.Path.{_≡_, ap, ap₂, _∙_}
 use mathlib.Core.List.{List}
 use Prim.Native.Nat.{ℕ}
 use lib.ListN.{length}
@@ -8,17 +8,11 @@ use Rattle.ring.specs.Ring.{n}
 use Rattle.scheme.specs.Scheme.{Triple, masked}
 use Rattle.scheme.proofs.Steps.{masked-through}
 use Rattle.answers.specs.declared.Answer.{Answer}
-use Rattle.answers.specs.declared.Answer.the-variants.{Done, Refused}
-use Rattle.answers.specs.Answers.{andThen, onDone}
+use Rattle.answers.specs.Answers.{onDone}
 use Rattle.records.specs.Records.{encapsulationBytes}
 use Rattle.public_keys.specs.PublicKeys.{publicA, publicB}
 use Rattle.keys.specs.Keys.{noiseTriple}
 use Rattle.calls.specs.Calls.{encapsulatedWith, sealAnswer, protectedEntry, sealedWith, sealedBytes, sealOut}
-
--- where nothing follows
-pub then-nothing : (a : Answer) → andThen a Done ≡ a
-then-nothing Done = refl
-then-nothing (Refused r) = refl
 
 -- what the output holds by what is said
 pub seal-written : (k noise entry out : List ℕ) {a : Answer} {c1 c2 : List ℕ} {t : Triple} → a ≡ sealAnswer k noise entry (length out)

@@ -5,7 +5,7 @@ use Rattle.answers.specs.declared.Refusal.the-variants.{WrongLength, WrongCount
 use Rattle.answers.specs.declared.Answer.the-variants.{Done}
 use Rattle.answers.specs.Answers.{unless, andThen}
 use Rattle.batch_records.specs.Batches.{batchLength, count?}
-use Rattle.batch_records.proofs.Laws.{unless-then}
+use Rattle.answers.proofs.AnswerLaws.{unless-then}
 use borrow.Author.Needs.{needs}
 use Rattle.batch_records.proofs.count_answer.Statement.{statement}
 use Rattle.batch_records.proofs.count_answer.Tie as tie

@@ -2,9 +2,10 @@ use mathlib.Core.Path.{_∙_}
 use denote.Ref.{now}
 use Rattle.ntt.proofs.Factors.{forward-size, backward-size}
 use Rattle.scheme.specs.Answers.{tripleOf}
+use Rattle.answers.proofs.AnswerLaws.{then-nothing}
 use Rattle.public_keys.specs.PublicKeys.{publicA, publicB}
 use Rattle.public_keys.proofs.EitherKind.{length-a, length-b}
-use Rattle.sealing.proofs.Laws.{then-nothing, masked-both}
+use Rattle.sealing.proofs.Laws.{masked-both}
 use borrow.Author.Needs.{needs}
 use Rattle.sealing.proofs.encapsulate_noise.Statement.{statement}
 use Rattle.sealing.proofs.encapsulate_noise.Tie as tie
