@@ -32,7 +32,7 @@ pub enum Error {
     DecapsulationFailure,
     /// 10, bad tag: the tag is not that of the body.
     TagMismatch,
-    /// 11, off the ring: a word of an encapsulation or of a sealed entry is 59,393 or more.
+    /// 11, off the ring: a word of an encapsulation, sealed entry or batch is 59,393 or more.
     EncapsulationOutOfRange(Location),
     /// 12, wrong count: a batch is of 1 to 255 entries.
     WrongCount,

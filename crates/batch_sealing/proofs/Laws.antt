@@ -1,5 +1,5 @@
 -- The tests of sealing a batch, one after the other, and what is written.
-use mathlib.Core.Path.{_≡_, ap, ap₂, _∙_}
+use mathlib.Core.Path.{_≡_, sym, ap, ap₂, _∙_}
 use mathlib.Core.Bool.{Bool, true, false, _&&_}
 use mathlib.Core.List.{List}
 use Prim.Native.Nat.{ℕ, _%_}
@@ -19,6 +19,11 @@ use Rattle.batch_calls.specs.Calls.{entries, sealBatchAnswer, protectedBatch, b
 module _ (k noise blocks : List ℕ) (room : ℕ) where
   abbrev fits? : Bool
   fits? = publicLength? (length k) && eqb (length noise) tripleNoiseLength && eqb room (batchLength (entries blocks))
+
+  -- the key's length is judged by a function of its own
+  pub fits-by : {b t : Bool} → b ≡ publicLength? (length k)
+      → b && eqb (length noise) tripleNoiseLength && eqb room (batchLength (entries blocks)) ≡ t → fits? ≡ t
+  fits-by e h = ap (λ (b : Bool). b && eqb (length noise) tripleNoiseLength && eqb room (batchLength (entries blocks))) (sym e) ∙ h
 
   pub entries-refused : eqb (length blocks % 16) 0 ≡ false → Refused WrongLength ≡ sealBatchAnswer k noise blocks room
   unfolding sealBatchAnswer

@@ -13,6 +13,7 @@ use records::TRIPLE_LENGTH;
 use recovery::Decapsulated;
 use recovery::Recovered;
 use scheme::Triple;
+use sealed_records::SEALED_ENTRY_VERSION;
 ghost use mathlib.Core.Path.{_≡_};
 ghost use mathlib.Core.List.{_++_};
 ghost use Prim.Native.Nat.{_%_, _≤_};
@@ -160,7 +161,7 @@ pub fn open(key: &[u8], sealed: &[u8], noise: &[u8], out: &mut [u8]) -> Answer
     open_sealed(
         key,
         sealed,
-        1,
+        SEALED_ENTRY_VERSION,
         Answer::Done,
         noise,
         &sealed[0..0],

@@ -32,6 +32,9 @@ pub struct ReadEncapsulation {
 
 // ---- sealed entries
 
+// "PLG", version 1.
+pub const SEALED_ENTRY_VERSION: u16 = 1;
+
 // What the words of a sealed entry are answered by; the first that is q or more is named.
 fn sealed_words_answer(at: Places) -> Answer
     ensures { λ a. ⌜ a ≡ placesAnswer at (c1Word Kind.SealedEntry (at .first)) (c2Word Kind.SealedEntry (at .second)) ⌝ }
@@ -73,7 +76,7 @@ pub fn write_sealed_entry(
     requires { ⌜ length (now out) ≡ sealedEntryLength ⌝ }
     ensures { λ _. ⌜ now (out .exit) ≡ sealedEntryBytes c1 c2 body tag ⌝ }
 {
-    records::write_record(SEALED_ENTRY_MARK, 1, c1, c2, out);
+    records::write_record(SEALED_ENTRY_MARK, SEALED_ENTRY_VERSION, c1, c2, out);
     octets::write_block(body, &mut out[THIRD..TAG]);
     octets::write_block(tag, &mut out[TAG..SEALED_ENTRY_LENGTH]);
 }

@@ -1,13 +1,9 @@
-use mathlib.Core.Path.{sym, ap, _∙_}
-use mathlib.Core.Bool.{Bool, _&&_}
-use lib.Dec.{eqb}
+use mathlib.Core.Path.{sym, _∙_}
 use lib.ListN.{length}
 use denote.Ref.{now}
 use borrow.Author.Tests.{not-true, not-false, ne-eqb}
-use Rattle.batch_records.specs.Batches.{batchLength}
-use Rattle.batch_calls.specs.Calls.{entries}
 use Rattle.batch_calls.proofs.Lengths.{sealing-fits}
-use Rattle.batch_sealing.proofs.Laws.{entries-refused, count-refused, lengths-refused, key-decides, written, kept}
+use Rattle.batch_sealing.proofs.Laws.{fits-by, entries-refused, count-refused, lengths-refused, key-decides, written, kept}
 use borrow.Author.Needs.{needs}
 use Rattle.batch_sealing.proofs.seal_batch.Statement.{statement}
 use Rattle.batch_sealing.proofs.seal_batch.Tie as tie
@@ -46,8 +42,7 @@ returns-3 c =
     let args = whole .before .before .before .before .before .args in
     let count = sym (counted .before .is-count .ensures) ∙ not-false _ (counted .if2 .left) in
     let misfit =
-    ap (λ (b : Bool). b && eqb (length (now (args .noise))) 1536 && eqb (length (now (args .out))) (batchLength (entries (now (args .blocks))))) (sym (c .before .is-public-length .ensures))
-    ∙ not-true _ (c .if3 .taken) in
+    fits-by (now (args .key)) (now (args .noise)) (now (args .blocks)) (length (now (args .out))) (c .before .is-public-length .ensures) (not-true _ (c .if3 .taken)) in
     let answer =
     lengths-refused (now (args .key)) (now (args .noise)) (now (args .blocks)) (length (now (args .out))) (whole .if1 .left) count misfit in
     (answer, kept (now (args .key)) (now (args .noise)) (now (args .blocks)) (now (args .out)) answer)
@@ -57,8 +52,7 @@ encapsulate-noise-requires c κs =
     let args = c .before .before .before .before .before .before .before .before .before .args in
     let (key, noise, room) =
     sealing-fits (now (args .key)) (now (args .noise)) (now (args .blocks)) (length (now (args .out))) .0
-    (ap (λ (b : Bool). b && eqb (length (now (args .noise))) 1536 && eqb (length (now (args .out))) (batchLength (entries (now (args .blocks))))) (sym (c .before .is-public-length .ensures))
-    ∙ not-false _ (c .if3 .left)) in
+    (fits-by (now (args .key)) (now (args .noise)) (now (args .blocks)) (length (now (args .out))) (c .before .is-public-length .ensures) (not-false _ (c .if3 .left))) in
     (key, noise)
 
 write-sealed-requires : tie.Need-write-sealed-requires
@@ -68,8 +62,7 @@ write-sealed-requires c κs =
     let args = whole .before .before .before .before .before .args in
     let (key, noise, room) =
     sealing-fits (now (args .key)) (now (args .noise)) (now (args .blocks)) (length (now (args .out))) .0
-    (ap (λ (b : Bool). b && eqb (length (now (args .noise))) 1536 && eqb (length (now (args .out))) (batchLength (entries (now (args .blocks))))) (sym (left .before .is-public-length .ensures))
-    ∙ not-false _ (left .if3 .left)) in
+    (fits-by (now (args .key)) (now (args .noise)) (now (args .blocks)) (length (now (args .out))) (left .before .is-public-length .ensures) (not-false _ (left .if3 .left))) in
     (whole .if1 .left, room)
 
 same-length : tie.Need-same-length
@@ -84,8 +77,7 @@ returns-4 c =
     let args = whole .before .before .before .before .before .args in
     let count = sym (counted .before .is-count .ensures) ∙ not-false _ (counted .if2 .left) in
     let fits =
-    ap (λ (b : Bool). b && eqb (length (now (args .noise))) 1536 && eqb (length (now (args .out))) (batchLength (entries (now (args .blocks))))) (sym (left .before .is-public-length .ensures))
-    ∙ not-false _ (left .if3 .left) in
+    fits-by (now (args .key)) (now (args .noise)) (now (args .blocks)) (length (now (args .out))) (left .before .is-public-length .ensures) (not-false _ (left .if3 .left)) in
     let (checked, (triple, (c1, c2))) = made .encapsulate-noise .ensures in
     let answer =
     checked ∙ key-decides (now (args .key)) (now (args .noise)) (now (args .blocks)) (length (now (args .out))) (whole .if1 .left) count fits in
