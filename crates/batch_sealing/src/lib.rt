@@ -40,6 +40,8 @@ fn write_sealed(answer: Answer, c1: Element, c2: Element, t: Triple, blocks: &[u
     }
 }
 
+// (c1, c2) = (a × r + e1, b × r + e2), by the triple of TRIPLE_NOISE_LENGTH bytes, then body = entries xor keystream and, of its blocks B1 to Bm,
+// tag = K1^(m+1) × L + K1^m × B1 + .. + K1 × Bm + K2. BLOCK_LENGTH × m bytes give BATCH_OVERHEAD + BLOCK_LENGTH × m.
 pub fn seal_batch(key: &[u8], noise: &[u8], blocks: &[u8], out: &mut [u8]) -> Answer
     ensures { λ a. ⌜ a ≡ sealBatchAnswer (now (key .entry)) (now (noise .entry)) (now (blocks .entry)) (length (now (out .entry))) ⌝ }
     ensures { λ _. ⌜ now (out .exit) ≡ sealBatchOut (now (key .entry)) (now (noise .entry)) (now (blocks .entry)) (now (out .entry)) ⌝ }

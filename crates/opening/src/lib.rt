@@ -61,6 +61,7 @@ fn write_triple(answer: Answer, t: Triple, out: &mut [u8])
     }
 }
 
+// The ternary (r, e1, e2) with (c1, c2) = (a × r + e1, b × r + e2), whatever the dummy. ENCAPSULATION_LENGTH bytes give TRIPLE_LENGTH.
 pub fn decapsulate(key: &[u8], encapsulation: &[u8], dummy: &[u8], out: &mut [u8]) -> Answer
     ensures { λ a. ⌜ a ≡ decapsulateAnswer (now (key .entry)) (now (encapsulation .entry)) (now (dummy .entry)) (length (now (out .entry))) ⌝ }
     ensures { λ _. ⌜ now (out .exit) ≡ decapsulateOut (now (key .entry)) (now (encapsulation .entry)) (now (dummy .entry)) (now (out .entry)) ⌝ }
@@ -146,6 +147,8 @@ pub fn open_sealed(
 
 // ---- open
 
+// entry = body xor keystream where tag = K1 × body + K2, of what the ternary triple of (c1, c2) derives, whatever the dummy. SEALED_ENTRY_LENGTH
+// bytes give BLOCK_LENGTH.
 pub fn open(key: &[u8], sealed: &[u8], noise: &[u8], out: &mut [u8]) -> Answer
     ensures { λ a. ⌜ a ≡ openAnswer (now (key .entry)) (now (sealed .entry)) (now (noise .entry)) (length (now (out .entry))) ⌝ }
     ensures { λ _. ⌜ now (out .exit) ≡ openOut (now (key .entry)) (now (sealed .entry)) (now (noise .entry)) (now (out .entry)) ⌝ }

@@ -85,6 +85,7 @@ fn write_encapsulation(answer: Answer, c1: Element, c2: Element, out: &mut [u8])
     }
 }
 
+// (c1, c2) = (a × r + e1, b × r + e2), of a triple (r, e1, e2). TRIPLE_LENGTH bytes give ENCAPSULATION_LENGTH.
 pub fn encapsulate(key: &[u8], triple: &[u8], out: &mut [u8]) -> Answer
     ensures { λ a. ⌜ a ≡ encapsulateAnswer (now (key .entry)) (now (triple .entry)) (length (now (out .entry))) ⌝ }
     ensures { λ _. ⌜ now (out .exit) ≡ encapsulateOut (now (key .entry)) (now (triple .entry)) (now (out .entry)) ⌝ }
@@ -155,6 +156,8 @@ fn write_sealed(answer: Answer, c1: Element, c2: Element, t: Triple, entry: &[u8
     }
 }
 
+// (c1, c2) = (a × r + e1, b × r + e2), by the triple of TRIPLE_NOISE_LENGTH bytes, then body = entry xor keystream and tag = K1 × body + K2 of
+// what that triple derives. BLOCK_LENGTH bytes give SEALED_ENTRY_LENGTH.
 pub fn seal(key: &[u8], noise: &[u8], entry: &[u8], out: &mut [u8]) -> Answer
     ensures { λ a. ⌜ a ≡ sealAnswer (now (key .entry)) (now (noise .entry)) (now (entry .entry)) (length (now (out .entry))) ⌝ }
     ensures { λ _. ⌜ now (out .exit) ≡ sealOut (now (key .entry)) (now (noise .entry)) (now (entry .entry)) (now (out .entry)) ⌝ }
