@@ -65,8 +65,8 @@ fn open_records(key: &[u8], batch: &[u8], noise: &[u8], out: &mut [u8]) -> Opene
     }
 }
 
-// entries = body xor keystream where tag = K1^(m+1) × L + K1^m × B1 + .. + K1 × Bm + K2, of what the ternary triple of (c1, c2) derives, whatever
-// the dummy. BATCH_OVERHEAD + BLOCK_LENGTH × m bytes give the first BLOCK_LENGTH × m of ENTRIES_LENGTH, and m.
+// entries = body xor keystream where, of the blocks B1 to Bm of the body, tag = K1^(m+1) × L + K1^m × B1 + .. + K1 × Bm + K2, of what the ternary
+// triple of (c1, c2) derives, whatever the dummy. BATCH_OVERHEAD + BLOCK_LENGTH × m bytes give the first BLOCK_LENGTH × m of ENTRIES_LENGTH, and m.
 pub fn open_batch(key: &[u8], batch: &[u8], noise: &[u8], out: &mut [u8]) -> OpenedBatch
     ensures { λ o. ⌜ o .answer ≡ openBatchAnswer (now (key .entry)) (now (batch .entry)) (now (noise .entry)) (length (now (out .entry))) ⌝ }
     ensures { λ o. ⌜ o .count ≡ openBatchCount (now (key .entry)) (now (batch .entry)) (now (noise .entry)) (length (now (out .entry))) 0 ⌝ }

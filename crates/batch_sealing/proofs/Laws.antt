@@ -17,13 +17,16 @@ use Rattle.keys.specs.Keys.{tripleNoiseLength, noiseTriple}
 use Rattle.batch_calls.specs.Calls.{entries, sealBatchAnswer, protectedBatch, batchWith, sealedBatch, sealBatchOut}
 
 module _ (k noise blocks : List ℕ) (room : ℕ) where
-  abbrev fits? : Bool
-  fits? = publicLength? (length k) && eqb (length noise) tripleNoiseLength && eqb room (batchLength (entries blocks))
+  -- the buffers beside the entries, by the test of the key's length
+  abbrev fit? : (key : Bool) → Bool
+  fit? key = key && eqb (length noise) tripleNoiseLength && eqb room (batchLength (entries blocks))
 
-  -- the key's length is judged by a function of its own
-  pub fits-by : {b t : Bool} → b ≡ publicLength? (length k)
-      → b && eqb (length noise) tripleNoiseLength && eqb room (batchLength (entries blocks)) ≡ t → fits? ≡ t
-  fits-by e h = ap (λ (b : Bool). b && eqb (length noise) tripleNoiseLength && eqb room (batchLength (entries blocks))) (sym e) ∙ h
+  abbrev fits? : Bool
+  fits? = fit? (publicLength? (length k))
+
+  -- a function of its own makes that test
+  pub fits-by : {b t : Bool} → b ≡ publicLength? (length k) → fit? b ≡ t → fits? ≡ t
+  fits-by e h = ap fit? (sym e) ∙ h
 
   pub entries-refused : eqb (length blocks % 16) 0 ≡ false → Refused WrongLength ≡ sealBatchAnswer k noise blocks room
   unfolding sealBatchAnswer

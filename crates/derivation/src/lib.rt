@@ -1,4 +1,4 @@
-// Keys, keystream, body and tag of a triple of ternary polynomials: document 01, "Bytes".
+// Keys, keystream, body and tag of a triple of ternary polynomials: document 01, "Bytes", and of batches document 02, No. 4.
 // Nothing here branches on a secret or indexes by one.
 use ntt::Element;
 use octets::BLOCK_LENGTH;

@@ -1,4 +1,4 @@
--- The field's elements as blocks of 16 bytes, and the tag (document 01, "Bytes").
+-- The field's elements as blocks of 16 bytes, and the tag (document 01, "Bytes"; over many blocks document 02, No. 4).
 use mathlib.Core.Path.{_≡_}
 use mathlib.Core.Bool.{Bool, true, false, _&&_}
 use mathlib.Core.List.{List, [], _∷_, zipWith}

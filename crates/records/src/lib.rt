@@ -1,5 +1,6 @@
 // The records of document 01 and of document 02, No. 2, as bytes: their layout, what their checks answer, in order, and the front that keys
-// and sealed entries share, read and written. Document 01's keys are written here; seeded_records, sealed_records and triples have the other records.
+// and sealed entries share, read and written. Document 01's keys are written here; seeded_records, sealed_records, batch_records and triples have
+// the other records.
 // The calls test every length first, so the functions here are lent buffers of the record's length.
 use answers::Answer;
 use answers::Refusal;

@@ -1,7 +1,9 @@
--- Encapsulation and sealing with a key that is given by its spectra.
-use mathlib.Core.Path.{_≡_, ap, ap₂, _∙_}
+-- The tests of lengths; encapsulation and sealing with a key that is given by its spectra.
+use mathlib.Core.Path.{_≡_, sym, ap, ap₂, _∙_}
+use mathlib.Core.Bool.{Bool, _&&_}
 use mathlib.Core.List.{List}
 use Prim.Native.Nat.{ℕ}
+use lib.Dec.{eqb}
 use lib.ListN.{length}
 use Rattle.ntt.specs.Spectrum.{spectrumOf, coefficientsOf}
 use Rattle.ring.specs.Ring.{n}
@@ -9,10 +11,29 @@ use Rattle.scheme.specs.Scheme.{Triple, masked}
 use Rattle.scheme.proofs.Steps.{masked-through}
 use Rattle.answers.specs.declared.Answer.{Answer}
 use Rattle.answers.specs.Answers.{onDone}
+use Rattle.records.specs.Layout.{sealedEntryLength, encapsulationLength, tripleLength, blockLength}
 use Rattle.records.specs.Records.{encapsulationBytes}
-use Rattle.public_keys.specs.PublicKeys.{publicA, publicB}
-use Rattle.keys.specs.Keys.{noiseTriple}
+use Rattle.public_keys.specs.PublicKeys.{publicLength?, publicA, publicB}
+use Rattle.keys.specs.Keys.{tripleNoiseLength, noiseTriple}
 use Rattle.calls.specs.Calls.{encapsulatedWith, sealAnswer, protectedEntry, sealedWith, sealedBytes, sealOut}
+
+-- ---- the lengths, by the test of the key's, which a function of its own makes
+
+module _ (k triple : List ℕ) (room : ℕ) where
+  abbrev encapsulate-fit? : (key : Bool) → Bool
+  encapsulate-fit? key = key && eqb (length triple) tripleLength && eqb room encapsulationLength
+
+  pub encapsulate-fits-by : {b t : Bool} → b ≡ publicLength? (length k) → encapsulate-fit? b ≡ t → encapsulate-fit? (publicLength? (length k)) ≡ t
+  encapsulate-fits-by e h = ap encapsulate-fit? (sym e) ∙ h
+
+module _ (k noise entry : List ℕ) (room : ℕ) where
+  abbrev seal-fit? : (key : Bool) → Bool
+  seal-fit? key = key && eqb (length noise) tripleNoiseLength && eqb (length entry) blockLength && eqb room sealedEntryLength
+
+  pub seal-fits-by : {b t : Bool} → b ≡ publicLength? (length k) → seal-fit? b ≡ t → seal-fit? (publicLength? (length k)) ≡ t
+  seal-fits-by e h = ap seal-fit? (sym e) ∙ h
+
+-- ---- what is written
 
 -- what the output holds by what is said
 pub seal-written : (k noise entry out : List ℕ) {a : Answer} {c1 c2 : List ℕ} {t : Triple} → a ≡ sealAnswer k noise entry (length out)

@@ -1,18 +1,18 @@
-use mathlib.Core.Path.{_≡_, sym, ap, ap₂, _∙_}
-use mathlib.Core.Bool.{Bool, true, false, _&&_}
+use mathlib.Core.Path.{sym, ap, ap₂, _∙_}
+use mathlib.Core.Bool.{Bool}
 use mathlib.Core.List.{List}
 use Prim.Native.Nat.{ℕ}
 use denote.Ref.{now}
-use lib.Dec.{eqb}
 use lib.ListN.{length}
 use borrow.Author.Tests.{not-true, not-false}
 use Rattle.answers.specs.declared.Refusal.the-variants.{WrongLength}
 use Rattle.answers.specs.declared.Answer.{Answer}
 use Rattle.answers.specs.Answers.{unless, andThen, onDone}
 use Rattle.triples.specs.Triple.{tripleOf, tripleAnswer}
-use Rattle.public_keys.specs.PublicKeys.{publicLength?, publicA, publicB, publicAnswer}
+use Rattle.public_keys.specs.PublicKeys.{publicA, publicB, publicAnswer}
 use Rattle.calls.specs.Calls.{encapsulateAnswer, encapsulatedWith, encapsulateOut}
 use Rattle.calls.proofs.Lengths.{encapsulate-fits}
+use Rattle.sealing.proofs.Laws.{encapsulate-fits-by}
 use borrow.Author.Needs.{needs}
 use Rattle.sealing.proofs.encapsulate.Statement.{statement}
 use Rattle.sealing.proofs.encapsulate.Tie as tie
@@ -27,24 +27,23 @@ returns c =
     let k = now (args .key) in
     let t = now (args .triple) in
     let old = now (args .out) in
-    let misfit : publicLength? (length k) && eqb (length t) 768 && eqb (length old) 4096 ≡ false =
-    ap (λ (b : Bool). b && eqb (length t) 768 && eqb (length old) 4096) (sym (c .before .is-public-length .ensures)) ∙ not-true _ (c .if1 .taken) in
+    let misfit = encapsulate-fits-by k t (length old) (c .before .is-public-length .ensures) (not-true _ (c .if1 .taken)) in
     let answer = sym (ap (λ (b : Bool). unless b WrongLength (andThen (publicAnswer k) (tripleAnswer t))) misfit) in
     (answer, ap (λ (a : Answer). onDone a (encapsulatedWith (publicA k) (publicB k) (tripleOf t)) old) answer)
 
 encapsulate-records-requires : tie.Need-encapsulate-records-requires
 encapsulate-records-requires c κs =
     let args = c .before .before .before .before .before .args in
-    let fits = ap (λ (b : Bool). b && eqb (length (now (args .triple))) 768 && eqb (length (now (args .out))) 4096) (sym (c .before .is-public-length .ensures)) in
-    let (key, triple, room) = encapsulate-fits (now (args .key)) (now (args .triple)) (length (now (args .out))) .0 (fits ∙ not-false _ (c .if1 .left)) in
+    let fits = encapsulate-fits-by (now (args .key)) (now (args .triple)) (length (now (args .out))) (c .before .is-public-length .ensures) (not-false _ (c .if1 .left)) in
+    let (key, triple, room) = encapsulate-fits (now (args .key)) (now (args .triple)) (length (now (args .out))) .0 fits in
     (key, triple)
 
 write-encapsulation-requires : tie.Need-write-encapsulation-requires
 write-encapsulation-requires c κs =
     let left = c .before .before .before .before in
     let args = left .before .before .before .before .before .args in
-    let fits = ap (λ (b : Bool). b && eqb (length (now (args .triple))) 768 && eqb (length (now (args .out))) 4096) (sym (left .before .is-public-length .ensures)) in
-    encapsulate-fits (now (args .key)) (now (args .triple)) (length (now (args .out))) .0 (fits ∙ not-false _ (left .if1 .left)) .2
+    let fits = encapsulate-fits-by (now (args .key)) (now (args .triple)) (length (now (args .out))) (left .before .is-public-length .ensures) (not-false _ (left .if1 .left)) in
+    encapsulate-fits (now (args .key)) (now (args .triple)) (length (now (args .out))) .0 fits .2
 
 same-length : tie.Need-same-length
 same-length c = search needs
@@ -58,8 +57,7 @@ returns-2 c =
     let k = now (args .key) in
     let t = now (args .triple) in
     let old = now (args .out) in
-    let fits : publicLength? (length k) && eqb (length t) 768 && eqb (length old) 4096 ≡ true =
-    ap (λ (b : Bool). b && eqb (length t) 768 && eqb (length old) 4096) (sym (left .before .is-public-length .ensures)) ∙ not-false _ (left .if1 .left) in
+    let fits = encapsulate-fits-by k t (length old) (left .before .is-public-length .ensures) (not-false _ (left .if1 .left)) in
     let (checked, bytes) = made .encapsulate-records .ensures in
     let answer = checked ∙ sym (ap (λ (b : Bool). unless b WrongLength (andThen (publicAnswer k) (tripleAnswer t))) fits) in
     (answer, c .before .before .write-encapsulation .ensures ∙ ap₂ (λ (a : Answer) (x : List ℕ). onDone a x old) answer bytes)

@@ -1,15 +1,14 @@
-use mathlib.Core.Path.{_≡_, sym, ap, _∙_}
+use mathlib.Core.Path.{sym, ap, _∙_}
 use denote.Ref.{now}
 use lib.ListN.{length}
-use mathlib.Core.Bool.{Bool, true, false, _&&_}
-use lib.Dec.{eqb}
+use mathlib.Core.Bool.{Bool}
 use borrow.Author.Tests.{not-true, not-false}
 use Rattle.answers.specs.declared.Refusal.the-variants.{WrongLength}
 use Rattle.answers.specs.declared.Answer.{Answer}
 use Rattle.answers.specs.Answers.{unless, onDone}
-use Rattle.public_keys.specs.PublicKeys.{publicLength?, publicAnswer}
+use Rattle.public_keys.specs.PublicKeys.{publicAnswer}
 use Rattle.calls.specs.Calls.{sealAnswer, sealedBytes, sealOut}
-use Rattle.sealing.proofs.Laws.{seal-written}
+use Rattle.sealing.proofs.Laws.{seal-fits-by, seal-written}
 use Rattle.calls.proofs.Lengths.{seal-fits}
 use borrow.Author.Needs.{needs}
 use Rattle.sealing.proofs.seal.Statement.{statement}
@@ -26,26 +25,27 @@ returns c =
     let noise = now (args .noise) in
     let entry = now (args .entry) in
     let old = now (args .out) in
-    let misfit : publicLength? (length k) && eqb (length noise) 1536 && eqb (length entry) 16 && eqb (length old) 4133 ≡ false =
-    ap (λ (b : Bool). b && eqb (length noise) 1536 && eqb (length entry) 16 && eqb (length old) 4133) (sym (c .before .is-public-length .ensures)) ∙ not-true _ (c .if1 .taken) in
+    let misfit = seal-fits-by k noise entry (length old) (c .before .is-public-length .ensures) (not-true _ (c .if1 .taken)) in
     let answer = sym (ap (λ (b : Bool). unless b WrongLength (publicAnswer k)) misfit) in
     (answer, ap (λ (a : Answer). onDone a (sealedBytes k noise entry) old) answer)
 
 encapsulate-noise-requires : tie.Need-encapsulate-noise-requires
 encapsulate-noise-requires c κs =
     let args = c .before .before .before .before .before .before .args in
-    let fits = ap (λ (b : Bool). b && eqb (length (now (args .noise))) 1536 && eqb (length (now (args .entry))) 16 && eqb (length (now (args .out))) 4133) (sym (c .before .is-public-length .ensures)) in
+    let fits =
+    seal-fits-by (now (args .key)) (now (args .noise)) (now (args .entry)) (length (now (args .out))) (c .before .is-public-length .ensures) (not-false _ (c .if1 .left)) in
     let (key, noise, entry, room) =
-    seal-fits (now (args .key)) (now (args .noise)) (now (args .entry)) (length (now (args .out))) .0 (fits ∙ not-false _ (c .if1 .left)) in
+    seal-fits (now (args .key)) (now (args .noise)) (now (args .entry)) (length (now (args .out))) .0 fits in
     (key, noise)
 
 write-sealed-requires : tie.Need-write-sealed-requires
 write-sealed-requires c κs =
     let left = c .before .before .before .before .before in
     let args = left .before .before .before .before .before .before .args in
-    let fits = ap (λ (b : Bool). b && eqb (length (now (args .noise))) 1536 && eqb (length (now (args .entry))) 16 && eqb (length (now (args .out))) 4133) (sym (left .before .is-public-length .ensures)) in
+    let fits =
+    seal-fits-by (now (args .key)) (now (args .noise)) (now (args .entry)) (length (now (args .out))) (left .before .is-public-length .ensures) (not-false _ (left .if1 .left)) in
     let (key, noise, entry, room) =
-    seal-fits (now (args .key)) (now (args .noise)) (now (args .entry)) (length (now (args .out))) .0 (fits ∙ not-false _ (left .if1 .left)) in
+    seal-fits (now (args .key)) (now (args .noise)) (now (args .entry)) (length (now (args .out))) .0 fits in
     (entry, room)
 
 same-length : tie.Need-same-length
@@ -61,8 +61,7 @@ returns-2 c =
     let noise = now (args .noise) in
     let entry = now (args .entry) in
     let old = now (args .out) in
-    let fits : publicLength? (length k) && eqb (length noise) 1536 && eqb (length entry) 16 && eqb (length old) 4133 ≡ true =
-    ap (λ (b : Bool). b && eqb (length noise) 1536 && eqb (length entry) 16 && eqb (length old) 4133) (sym (left .before .is-public-length .ensures)) ∙ not-false _ (left .if1 .left) in
+    let fits = seal-fits-by k noise entry (length old) (left .before .is-public-length .ensures) (not-false _ (left .if1 .left)) in
     let (checked, (triple, (c1, c2))) = made .encapsulate-noise .ensures in
     let answer = checked ∙ sym (ap (λ (b : Bool). unless b WrongLength (publicAnswer k)) fits) in
     (answer, c .before .before .write-sealed .ensures ∙ seal-written k noise entry old answer triple c1 c2)
