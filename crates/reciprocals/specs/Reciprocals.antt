@@ -7,7 +7,7 @@ use lib.ListN.{length, getD}
 use Rattle.lists.specs.Table.{table}
 use Rattle.lists.specs.First.{firstFailing}
 use Rattle.modq.specs.Modulus.{reciprocalOf}
-use Rattle.ntt.specs.Spectrum.{q, degree}
+use Rattle.ntt.specs.Spectrum.{q, degree, pointwise}
 
 -- q does not divide x
 abbrev pub nonzero? : ℕ → Bool
@@ -20,3 +20,7 @@ hasZero t = ltb (firstFailing nonzero? t) (length t)
 -- the reciprocal of every entry; zeros where some entry has none
 unfoldable pub reciprocalsOf : List ℕ → List ℕ
 reciprocalsOf t = table degree (λ k. cond (hasZero t) 0 (reciprocalOf (getD t k 0)))
+
+-- every product of two entries is 1
+unfoldable pub areReciprocals : (x y : List ℕ) → Bool
+areReciprocals x y = eqb (firstFailing (λ p. eqb p 1) (pointwise x y)) degree

@@ -6,7 +6,7 @@ ghost use mathlib.Core.Path.{_≡_};
 ghost use Prim.Native.Nat.{_≤_};
 ghost use lib.ListN.{length, drop};
 ghost use Rattle.ntt.specs.Spectrum.{degree};
-ghost use Rattle.reciprocals.specs.Reciprocals.{hasZero, reciprocalsOf};
+ghost use Rattle.reciprocals.specs.Reciprocals.{hasZero, reciprocalsOf, areReciprocals};
 ghost use Rattle.reciprocals.specs.Tree.{leavesOf, multipliedLevel, productsOf, invertedLevel, inversesOf};
 
 // Whether q divides some entry: then there are no reciprocals. It looks at all of them, whatever it finds.
@@ -20,6 +20,19 @@ pub fn has_zero(t: Spectrum) -> bool
         }
     }
     any
+}
+
+// Whether the entries of x and y are reciprocal to each other: every product of two is 1. It looks at all of them, whatever it finds.
+pub fn are_reciprocals(x: Spectrum, y: Spectrum) -> bool
+    ensures { λ r. ⌜ r ≡ areReciprocals x y ⌝ }
+{
+    let mut all = true;
+    for k in 0..DEGREE {
+        if modq::mul(x[k], y[k]) != 1 {
+            all = false;
+        }
+    }
+    all
 }
 
 // ---- the tree of products

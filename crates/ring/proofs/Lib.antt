@@ -12,3 +12,4 @@ pub mod Scans
 -- Products and inverses by the transform.
 pub mod Transforms
 pub mod Spectra
+pub mod Inverses

@@ -28,7 +28,7 @@ use Rattle.ring.specs.Invertible.{invertible?, inverseOf}
 use Rattle.ring.specs.Reciprocals.{hasZero, reciprocalsOf}
 use Rattle.ring.proofs.RingLaws.{inverse-is, inverse-none}
 
-value-of-zeros : (x m : ℕ) → N.valueMod q x (zeros m) ≡ 0
+pub value-of-zeros : (x m : ℕ) → N.valueMod q x (zeros m) ≡ 0
 unfolding N.valueMod
 value-of-zeros x zero = refl
 value-of-zeros x (suc m) = rw (value-of-zeros x m, mul-zero x) refl

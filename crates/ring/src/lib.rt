@@ -14,7 +14,7 @@ ghost use mathlib.Core.Bool.{decide};
 ghost use Rattle.ntt.specs.Spectrum.{coefficientsOf};
 ghost use Rattle.ntt.specs.Factors.{forwardFactors, backwardFactors};
 ghost use Rattle.ring.specs.Ring.{one, sum, difference, multiple, product};
-ghost use Rattle.ring.specs.Invertible.{invertible?, inverseOf};
+ghost use Rattle.ring.specs.Invertible.{invertible?, inverseOf, inverse?};
 ghost use Rattle.ring.specs.Centred.{centred, residue, centredRemainder, remainderOf, remainders, near?, within?};
 
 // ---- sums and multiples, word by word: of spectra they are the spectra of sums and multiples
@@ -192,4 +192,11 @@ pub fn inverse(b: Element) -> Inversion
     ntt::forward_factors(&mut w);
     ntt::backward_factors(&mut v);
     inverse_with(b, &w, &v)
+}
+
+// Whether the elements with the spectra x and y are inverse to each other: every product of two entries is then 1. It looks at all of them.
+pub fn are_inverses(x: Spectrum, y: Spectrum) -> bool
+    ensures { λ r. ⌜ r ≡ decide (inverse? (coefficientsOf x) (coefficientsOf y)) ⌝ }
+{
+    reciprocals::are_reciprocals(x, y)
 }
