@@ -1,12 +1,12 @@
 -- Laws of answers: what a chain of checks says.
-use mathlib.Core.Path.{_≡_, refl, sym, ap}
-use mathlib.Core.Bool.{Bool, true, false, true≢false, false≢true}
+use mathlib.Core.Path.{_≡_, refl, sym, ap, _∙_}
+use mathlib.Core.Bool.{Bool, true, false, true≢false, false≢true, decide, decide-iff, not-eq-not}
 use mathlib.Core.Logic.{_↔_, _⊎_, inl, inr, ⊎-elim}
 use Prim.Native.Nat.{ℕ, _<_}
 use native.Mathlib.Omega.{arith}
 use Rattle.answers.specs.declared.Refusal.{Refusal}
 use Rattle.answers.specs.declared.Refusal.the-variants.{WrongLength, WrongMark, WrongVersion, KeyOutOfRange, InvalidCode}
-use Rattle.answers.specs.declared.Refusal.the-variants.{NotInvertible, KeyMismatch, StreamExhausted, DecapsulationFailure, TagMismatch, EncapsulationOutOfRange, WrongCount}
+use Rattle.answers.specs.declared.Refusal.the-variants.{NotInvertible, KeyMismatch, StreamExhausted, DecapsulationFailure, TagMismatch, EncapsulationOutOfRange, WrongCount, InverseMismatch}
 use Rattle.answers.specs.declared.Answer.{Answer}
 use Rattle.answers.specs.declared.Answer.the-variants.{Done, Refused}
 use Rattle.answers.specs.declared.Location.{Location}
@@ -28,6 +28,7 @@ refusal-positive DecapsulationFailure = omega arith
 refusal-positive TagMismatch = omega arith
 refusal-positive (EncapsulationOutOfRange c) = omega arith
 refusal-positive WrongCount = omega arith
+refusal-positive InverseMismatch = omega arith
 
 refusal-not-zero : (r : Refusal) → ¬ (refusalNumber r ≡ 0)
 refusal-not-zero r e = omega (arith, refusal-positive r, e)
@@ -108,6 +109,16 @@ pub unless-refuses : (t : Bool) (r : Refusal) → (number (unless t r Done) ≡ 
 unless-refuses true r = (λ e. absurd (refusal-not-zero r (sym e)), λ p. absurd (true≢false p))
 unless-refuses false r = (λ e. refl, λ p. refl)
 
+-- a test of what is decided
+pub decided-done : {F : Type 0} (d : Dec F) (r : Refusal) → (unless (decide d) r Done ≡ Done) ↔ F
+decided-done d r = (λ e. decide-iff d .0 (unless-done (decide d) r Done .0 e .0), λ h. unless-done (decide d) r Done .1 (decide-iff d .1 h, refl))
+
+pub decided-refuses : {F : Type 0} (d : Dec F) (r : Refusal) → (number (unless (decide d) r Done) ≡ refusalNumber r) ↔ ¬ F
+decided-refuses d r = (
+  λ e h. true≢false (sym (decide-iff d .1 h) ∙ unless-refuses (decide d) r .0 e),
+  λ none. unless-refuses (decide d) r .1 (not-eq-not .0 (λ e. none (decide-iff d .0 e))),
+)
+
 -- a test that says its number where F does not hold; no check behind it has that number
 pub fails-here : {t : Bool} {F : Type 0} (r : Refusal) {a : Answer} → (t ≡ true) ↔ F → Never (refusalNumber r) a
     → (number (unless t r a) ≡ refusalNumber r) ↔ ¬ F
@@ -123,6 +134,11 @@ fails-or {t = false} r a f g = (λ e. inl (λ h. false≢true (f .1 h)), λ e. r
 pub then-refuses : {n : ℕ} (a : Answer) {b : Answer} → 0 < n → Never n b → (number (andThen a b) ≡ n) ↔ (number a ≡ n)
 then-refuses Done some rest = (λ e. absurd (rest .never e), λ e. absurd (omega arith))
 then-refuses (Refused r) some rest = (λ e. e, λ e. e)
+
+-- this check, or where it passes the one that follows
+pub says-either : {n : ℕ} (a b : Answer) → 0 < n → (number (andThen a b) ≡ n) ↔ ((number a ≡ n) ⊎ ((a ≡ Done) × (number b ≡ n)))
+says-either Done b some = (λ e. inr (refl, e), ⊎-elim (λ e. absurd (omega arith)) (λ (p, e). e))
+says-either (Refused r) b some = (λ e. inl e, ⊎-elim (λ e. e) (λ (p, e). absurd (not-done p)))
 
 -- ---- a chain of checks says a number and names a word
 

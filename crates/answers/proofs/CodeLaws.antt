@@ -4,7 +4,7 @@ use mathlib.Core.Logic.{_↔_}
 use Prim.Native.Nat.{ℕ, _/_, _%_, _<_}
 use native.Mathlib.Omega.{arith}
 use Rattle.answers.specs.declared.KeyPart.{KeyPart}
-use Rattle.answers.specs.declared.KeyPart.the-variants.{A, B}
+use Rattle.answers.specs.declared.KeyPart.the-variants.{A, B, StoredInverse}
 use Rattle.answers.specs.declared.KeyRecord.{KeyRecord}
 use Rattle.answers.specs.declared.KeyRecord.the-variants.{PublicKey, SeededPublicKey, SecretKey}
 use Rattle.answers.specs.declared.EncapsulationPart.{EncapsulationPart}
@@ -13,7 +13,7 @@ use Rattle.answers.specs.declared.EncapsulationRecord.{EncapsulationReco
 use Rattle.answers.specs.declared.EncapsulationRecord.the-variants.{SealedEntry, Encapsulation}
 use Rattle.answers.specs.declared.Refusal.{Refusal}
 use Rattle.answers.specs.declared.Refusal.the-variants.{WrongLength, WrongMark, WrongVersion, KeyOutOfRange, InvalidCode}
-use Rattle.answers.specs.declared.Refusal.the-variants.{NotInvertible, KeyMismatch, StreamExhausted, DecapsulationFailure, TagMismatch, EncapsulationOutOfRange, WrongCount}
+use Rattle.answers.specs.declared.Refusal.the-variants.{NotInvertible, KeyMismatch, StreamExhausted, DecapsulationFailure, TagMismatch, EncapsulationOutOfRange, WrongCount, InverseMismatch}
 use Rattle.answers.specs.declared.Answer.{Answer}
 use Rattle.answers.specs.declared.Answer.the-variants.{Done, Refused}
 use Rattle.answers.specs.declared.Location.{Location}
@@ -38,6 +38,7 @@ nowhere-fits = at-fits (omega arith) (omega arith)
 key-part-fits : (r : ℕ) → r < 16 → (p : KeyPart) → Fits (inKeyPart r p)
 key-part-fits r h (A i) = at-fits h (omega arith)
 key-part-fits r h (B i) = at-fits h (omega arith)
+key-part-fits r h (StoredInverse i) = at-fits h (omega arith)
 
 key-fits : (k : KeyRecord) → Fits (inKey k)
 key-fits (PublicKey p) = key-part-fits 1 (omega arith) p
@@ -66,6 +67,7 @@ refusal-fits DecapsulationFailure = (omega arith, nowhere-fits)
 refusal-fits TagMismatch = (omega arith, nowhere-fits)
 refusal-fits (EncapsulationOutOfRange c) = (omega arith, encapsulation-fits c)
 refusal-fits WrongCount = (omega arith, nowhere-fits)
+refusal-fits InverseMismatch = (omega arith, nowhere-fits)
 
 pub answer-fits : (a : Answer) → (number a < 256) × Fits (location a)
 answer-fits Done = (omega arith, nowhere-fits)
@@ -133,6 +135,7 @@ names-none (Refused r) no-key no-encapsulation = of r no-key no-encapsulation
     of TagMismatch no-key no-encapsulation = refl
     of (EncapsulationOutOfRange c) no-key no-encapsulation = absurd (no-encapsulation refl)
     of WrongCount no-key no-encapsulation = refl
+    of InverseMismatch no-key no-encapsulation = refl
 
 -- the code of any other answer is its number
 pub code-is-number : (a : Answer) → Never 4 a → Never 11 a → code a ≡ number a

@@ -1,9 +1,9 @@
--- What a call answers, and its number: document 01's, and document 02's (No. 3 and 4).
+-- What a call answers, and its number: document 01's, and document 02's (No. 3 to 5).
 use mathlib.Core.Bool.{Bool, true, false}
 use Prim.Native.Nat.{ℕ}
 use Rattle.answers.specs.declared.Refusal.{Refusal}
 use Rattle.answers.specs.declared.Refusal.the-variants.{WrongLength, WrongMark, WrongVersion, KeyOutOfRange, InvalidCode, NotInvertible, KeyMismatch}
-use Rattle.answers.specs.declared.Refusal.the-variants.{StreamExhausted, DecapsulationFailure, TagMismatch, EncapsulationOutOfRange, WrongCount}
+use Rattle.answers.specs.declared.Refusal.the-variants.{StreamExhausted, DecapsulationFailure, TagMismatch, EncapsulationOutOfRange, WrongCount, InverseMismatch}
 use Rattle.answers.specs.declared.Answer.{Answer}
 use Rattle.answers.specs.declared.Answer.the-variants.{Done, Refused}
 
@@ -33,6 +33,8 @@ refusalNumber TagMismatch = 10
 refusalNumber (EncapsulationOutOfRange c) = 11
 -- a count of entries that is not 1 to 255 (document 02, No. 4)
 refusalNumber WrongCount = 12
+-- a stored inverse that is not that of b (document 02, No. 5)
+refusalNumber InverseMismatch = 13
 
 abbrev pub number : Answer → ℕ
 number Done = 0

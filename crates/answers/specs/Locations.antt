@@ -2,7 +2,7 @@
 use mathlib.Core.Path.{_≡_}
 use Prim.Native.Nat.{ℕ, _+_, _*_, _/_, _%_}
 use Rattle.answers.specs.declared.KeyPart.{KeyPart}
-use Rattle.answers.specs.declared.KeyPart.the-variants.{A, B}
+use Rattle.answers.specs.declared.KeyPart.the-variants.{A, B, StoredInverse}
 use Rattle.answers.specs.declared.KeyRecord.{KeyRecord}
 use Rattle.answers.specs.declared.KeyRecord.the-variants.{PublicKey, SeededPublicKey, SecretKey}
 use Rattle.answers.specs.declared.EncapsulationPart.{EncapsulationPart}
@@ -11,7 +11,7 @@ use Rattle.answers.specs.declared.EncapsulationRecord.{EncapsulationReco
 use Rattle.answers.specs.declared.EncapsulationRecord.the-variants.{SealedEntry, Encapsulation}
 use Rattle.answers.specs.declared.Refusal.{Refusal}
 use Rattle.answers.specs.declared.Refusal.the-variants.{WrongLength, WrongMark, WrongVersion, KeyOutOfRange, InvalidCode, NotInvertible, KeyMismatch}
-use Rattle.answers.specs.declared.Refusal.the-variants.{StreamExhausted, DecapsulationFailure, TagMismatch, EncapsulationOutOfRange, WrongCount}
+use Rattle.answers.specs.declared.Refusal.the-variants.{StreamExhausted, DecapsulationFailure, TagMismatch, EncapsulationOutOfRange, WrongCount, InverseMismatch}
 use Rattle.answers.specs.declared.Answer.{Answer}
 use Rattle.answers.specs.declared.Answer.the-variants.{Done, Refused}
 use Rattle.answers.specs.declared.Location.{Location}
@@ -40,6 +40,9 @@ aPart = 1
 abbrev pub bPart : ℕ
 bPart = 2
 
+abbrev pub storedInversePart : ℕ
+storedInversePart = 3
+
 abbrev pub c1Part : ℕ
 c1Part = 4
 
@@ -59,6 +62,7 @@ nowhere = at 0 0 0
 abbrev pub inKeyPart : (r : ℕ) → KeyPart → Location
 inKeyPart r (A i) = at r aPart i
 inKeyPart r (B i) = at r bPart i
+inKeyPart r (StoredInverse i) = at r storedInversePart i
 
 abbrev pub inKey : KeyRecord → Location
 inKey (PublicKey p) = inKeyPart publicKey p
@@ -87,6 +91,7 @@ refusalLocation StreamExhausted = nowhere
 refusalLocation DecapsulationFailure = nowhere
 refusalLocation TagMismatch = nowhere
 refusalLocation WrongCount = nowhere
+refusalLocation InverseMismatch = nowhere
 
 abbrev pub location : Answer → Location
 location Done = nowhere

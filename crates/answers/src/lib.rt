@@ -7,10 +7,11 @@ ghost use Rattle.answers.specs.Locations.{inKeyPart, inKey, inEncapsulat
 
 // ---- answers
 
-// The part of a key that has a word of q or more, and the index of its first.
+// The part of a key that has a word of q or more, and the index of its first; an expanded secret key has the inverse of b.
 pub enum KeyPart {
     A(usize),
     B(usize),
+    StoredInverse(usize),
 }
 
 // The key that has it.
@@ -32,7 +33,7 @@ pub enum EncapsulationRecord {
     Encapsulation(EncapsulationPart),
 }
 
-// Why a call refuses: document 01's numbers 1 to 10, and document 02's 11 and 12.
+// Why a call refuses: document 01's numbers 1 to 10, and document 02's 11 to 13.
 pub enum Refusal {
     WrongLength,
     WrongMark,
@@ -46,6 +47,7 @@ pub enum Refusal {
     TagMismatch,
     EncapsulationOutOfRange(EncapsulationRecord),
     WrongCount,
+    InverseMismatch,
 }
 
 // What a call answers.
@@ -72,6 +74,7 @@ fn refusal_number(r: Refusal) -> u32
         Refusal::TagMismatch => 10,
         Refusal::EncapsulationOutOfRange(_) => 11,
         Refusal::WrongCount => 12,
+        Refusal::InverseMismatch => 13,
     }
 }
 
@@ -106,6 +109,11 @@ fn in_key_part(kind: u32, p: KeyPart) -> Location
         KeyPart::B(index) => Location {
             kind,
             part: 2,
+            index,
+        },
+        KeyPart::StoredInverse(index) => Location {
+            kind,
+            part: 3,
             index,
         },
     }

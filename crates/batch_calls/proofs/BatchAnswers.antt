@@ -2,7 +2,7 @@
 -- and which numbers the checks of a batch never say.
 use mathlib.Core.Path.{_≡_, refl}
 use mathlib.Core.Bool.{true}
-use mathlib.Core.Logic.{_↔_, Iff·rfl, Iff·trans, Iff·and}
+use mathlib.Core.Logic.{_↔_, _⊎_, inl, inr, ⊎-map, ⊎-elim, Iff·rfl, Iff·trans, Iff·and}
 use mathlib.Core.List.{List}
 use Prim.Native.Nat.{ℕ, _%_, _<_}
 use native.Mathlib.Omega.{arith}
@@ -13,25 +13,25 @@ use Rattle.encoding.specs.Header.{hasMark, versionOf}
 use Rattle.encoding.proofs.Words.{length-elementOf}
 use Rattle.answers.specs.declared.EncapsulationRecord.the-variants.{SealedEntry}
 use Rattle.answers.specs.declared.Refusal.the-variants.{WrongLength, WrongCount}
+use Rattle.answers.specs.declared.Answer.{Answer}
 use Rattle.answers.specs.declared.Answer.the-variants.{Done}
 use Rattle.answers.specs.declared.Location.{Location}
 use Rattle.answers.specs.Answers.{number, unless, andThen}
 use Rattle.answers.specs.Locations.{sealedEntry, c1Part, c2Part, Names}
-use Rattle.answers.proofs.AnswerLaws.{Never, unless-never, then-never, unless-says, then-says, fails-here, then-refuses, unless-names, then-names}
+use Rattle.answers.proofs.AnswerLaws.{Never, unless-never, then-never, unless-says, then-says, says-either, fails-here, then-refuses, unless-names, then-names}
 use Rattle.records.specs.Layout.{sealedEntryMark}
 use Rattle.records.specs.Records.{c1Word, c2Word, elementsAnswer, firstOf, secondOf}
 use Rattle.records.specs.Named.{NamedInTwo}
-use Rattle.records.proofs.RecordLaws.{header-done, OneOrAbove, header-never, elements-never}
+use Rattle.records.proofs.RecordLaws.{header-done, header-never, elements-never}
 use Rattle.records.proofs.NamedWords.{c1-word, c2-word, elements-named}
 use Rattle.batch_records.specs.Batches.{batchLength, countOf, count?, batchTag, taggedBlocks, batchAnswer}
 use Rattle.batch_records.specs.WellFormed.{Count}
 use Rattle.public_keys.specs.PublicKeys.{publicAnswer}
-use Rattle.keys.specs.Keys.{secretAnswer}
-use Rattle.keys.proofs.KeyLaws.{secret-never}
+use Rattle.secret_keys.specs.SecretKeys.{secretAnswer}
 use Rattle.calls.specs.Calls.{openedAnswer}
 use Rattle.calls.proofs.Lengths.{one-fits, says-after-lengths, names-after-lengths}
 use Rattle.calls.proofs.Behind.{opened-never}
-use Rattle.calls.proofs.LocatedExact.{accepted}
+use Rattle.calls.proofs.CheckExact.{accepted}
 use Rattle.batch_calls.specs.Calls.{entries, sealBatchAnswer, batchOutcome}
 use Rattle.batch_calls.specs.Promises.{SealingFits, OpeningFits, WholeEntries, BeforeCount}
 use Rattle.batch_calls.proofs.Lengths.{count-iff, sealing-fits}
@@ -87,13 +87,14 @@ module _ (batch : List ℕ) where
       unless-never (eqb (length batch) (batchLength (countOf batch))) WrongLength (λ e. omega arith) (batch-words-never (omega arith) bad-word)
 
   -- they say 1, 2, 3, 11 and 12 only, and what stands behind them 9 and 10
-  pub batch-rest-never : {n : ℕ} → 3 < n → n < 9 → (o : Outcome) (blocks tag : List ℕ) → Never n (andThen (batchAnswer batch) (openedAnswer o blocks tag))
+  pub batch-rest-never : {n : ℕ} → 3 < n → (8 < n → 12 < n) → (o : Outcome) (blocks tag : List ℕ) → Never n (andThen (batchAnswer batch) (openedAnswer o blocks tag))
   unfolding batchAnswer
   batch-rest-never low high o blocks tag =
       then-never
       (then-never (header-never (omega arith) sealedEntryMark 2 batch)
-      (unless-never (count? (countOf batch)) WrongCount (λ e. omega arith) (behind-count-never (omega arith) (λ e. omega arith))))
-      (opened-never (omega arith) (λ e. omega arith) (λ e. omega arith) o blocks tag)
+      (unless-never (count? (countOf batch)) WrongCount (λ e. omega (arith, high (omega arith)))
+      (behind-count-never (omega arith) (λ e. omega (arith, high (omega arith))))))
+      (opened-never (omega arith) (λ e. omega (arith, high (omega arith))) (λ e. omega (arith, high (omega arith))) o blocks tag)
 
   -- behind mark and version, the count does not fit
   pub batch-says-12 : (number (batchAnswer batch) ≡ 12) ↔ (HasFront batch × ¬ (Count (countOf batch)))
@@ -132,7 +133,7 @@ module _ (batch : List ℕ) where
 -- ---- opening: what stands before the count
 
 module _ (k batch noise : List ℕ) (room : ℕ) where
-  -- an accepted key is one whose length fits and whose checks pass
+  -- an accepted key is one that has a header and whose checks pass
   pub before-count : {G : Type 0}
       → (OpeningFits k batch noise room × ((secretAnswer k ≡ Done) × (HasFront batch × G))) ↔ (BeforeCount k batch noise room × G)
   before-count = (
@@ -140,19 +141,32 @@ module _ (k batch noise : List ℕ) (room : ℕ) where
     λ ((fits, key, mark, version), g). (fits, (accepted k .0 key .1, ((mark, version), g))),
   )
 
-  -- a number that the checks of a batch say where mark and version pass and G holds, and neither those of a key nor what stands behind
-  pub batch-says : {n : ℕ} {G : Type 0} → OneOrAbove 7 n → ¬ (9 ≡ n) → ¬ (10 ≡ n) → (number (batchAnswer batch) ≡ n) ↔ (HasFront batch × G)
-      → (OpeningFits k batch noise room
-      × (number
-      (andThen (secretAnswer k) (andThen (batchAnswer batch) (openedAnswer (batchOutcome k batch noise) (taggedBlocks batch) (batchTag batch)))) ≡ n))
-      ↔ (BeforeCount k batch noise room × G)
-  batch-says h no-triple bad-tag says =
+  -- what stands behind a key, and with it
+  abbrev pub behindKey : Answer
+  behindKey = andThen (batchAnswer batch) (openedAnswer (batchOutcome k batch noise) (taggedBlocks batch) (batchTag batch))
+
+  -- a number that the checks of a batch say where mark and version pass and G holds, and not what stands behind them
+  behind-says : {n : ℕ} {G : Type 0} → 0 < n → ¬ (9 ≡ n) → ¬ (10 ≡ n) → (number (batchAnswer batch) ≡ n) ↔ (HasFront batch × G)
+      → (number behindKey ≡ n) ↔ (HasFront batch × G)
+  behind-says some no-triple bad-tag says =
       Iff·trans
-      (Iff·and Iff·rfl
-      (Iff·trans (then-says _ (secret-never h k))
-      (Iff·and Iff·rfl
-      (Iff·trans
-      (then-refuses (batchAnswer batch) (h .0)
-      (opened-never (h .0) no-triple bad-tag (batchOutcome k batch noise) (taggedBlocks batch) (batchTag batch)))
-      says))))
-      before-count
+      (then-refuses (batchAnswer batch) some (opened-never some no-triple bad-tag (batchOutcome k batch noise) (taggedBlocks batch) (batchTag batch)))
+      says
+
+  -- .. and not those of a key
+  pub batch-says : {n : ℕ} {G : Type 0} → Never n (secretAnswer k) → 0 < n → ¬ (9 ≡ n) → ¬ (10 ≡ n) → (number (batchAnswer batch) ≡ n) ↔ (HasFront batch × G)
+      → (OpeningFits k batch noise room × (number (andThen (secretAnswer k) behindKey) ≡ n)) ↔ (BeforeCount k batch noise room × G)
+  batch-says never some no-triple bad-tag says =
+      Iff·trans (Iff·and Iff·rfl (Iff·trans (then-says _ never) (Iff·and Iff·rfl (behind-says some no-triple bad-tag says)))) before-count
+
+  -- .. or those of a key, where S holds
+  pub key-or-batch-says : {n : ℕ} {S G : Type 0} → 0 < n → ¬ (9 ≡ n) → ¬ (10 ≡ n) → (number (secretAnswer k) ≡ n) ↔ S
+      → (number (batchAnswer batch) ≡ n) ↔ (HasFront batch × G)
+      → (OpeningFits k batch noise room × (number (andThen (secretAnswer k) behindKey) ≡ n))
+      ↔ ((OpeningFits k batch noise room × S) ⊎ (BeforeCount k batch noise room × G))
+  key-or-batch-says some no-triple bad-tag key says =
+      Iff·trans (Iff·and Iff·rfl (says-either (secretAnswer k) behindKey some)) (
+        λ (fits, said). ⊎-map (λ e. (fits, key .0 e)) (λ (done, e). before-count .0 (fits, (done, behind-says some no-triple bad-tag says .0 e))) said,
+        ⊎-elim (λ (fits, s). (fits, inl (key .1 s)))
+            (λ g. let (fits, (done, e)) = before-count .1 g in (fits, inr (done, behind-says some no-triple bad-tag says .1 e))),
+      )

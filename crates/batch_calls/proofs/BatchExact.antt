@@ -13,11 +13,12 @@ use Rattle.answers.proofs.AnswerLaws.{number-done, unless-passed, then-passed, 
 use Rattle.records.specs.Records.{firstOf, secondOf}
 use Rattle.batch_records.specs.Batches.{entriesLength, countOf, batchBody, batchTag, taggedBlocks}
 use Rattle.batch_records.specs.WellFormed.{WellFormedBatch}
-use Rattle.keys.specs.Keys.{elementsOf, tripleNoiseLength, noiseTriple}
+use Rattle.secret_keys.specs.SecretKeys.{elementsOf}
+use Rattle.keys.specs.Keys.{tripleNoiseLength, noiseTriple}
 use Rattle.calls.specs.Calls.{openedAnswer, openedEntry}
 use Rattle.calls.specs.Promises.{Accepted}
-use Rattle.calls.proofs.CheckExact.{accepted-iff, accepted-done}
-use Rattle.calls.proofs.Outcomes.{noise-ternary, accepted-sound, outcome-free}
+use Rattle.calls.proofs.CheckExact.{accepted-size, accepted-done}
+use Rattle.calls.proofs.Outcomes.{noise-ternary, accepted-sound, accepted-a, accepted-b, outcome-free}
 use Rattle.calls.proofs.OpenExact.{opened-plain, opened}
 use Rattle.batch_calls.specs.Calls.{batchOutcome, openBatchAnswer, inFront, openBatchOut, openBatchCount}
 use Rattle.batch_calls.specs.Promises.{OpenedBatch, OpenBatchExact}
@@ -41,7 +42,7 @@ module _ (k batch before : List ℕ) (lent : ℕ) (accepted : Accepted k) (wb : 
   unfolding openBatchAnswer
   decides noise size =
       unless-passed WrongLength _
-      (opening-fits k batch noise (length before) .1 (accepted-iff k .0 accepted .0 .size, omega (arith, wb .size), size, room))
+      (opening-fits k batch noise (length before) .1 (accepted-size k accepted, omega (arith, wb .size), size, room))
       ∙ then-passed _ (accepted-done k accepted)
       ∙ then-passed _ (batch-done batch .1 wb)
 
@@ -74,8 +75,8 @@ module _ (k batch before : List ℕ) (lent : ℕ) (accepted : Accepted k) (wb : 
 
       by-outcome : OpenedBatch k batch before lent (number (says o)) (writing o) (counting o)
       by-outcome = record {
-        exact = opened (elementsOf k) (firstOf batch) (secondOf batch) (taggedBlocks batch) (batchBody batch) (batchTag batch) before
-            (λ x. inFront x before) (noiseTriple noise) (accepted-sound k accepted) (wb .front .first-words) (wb .front .second-words) (noise-ternary noise);
+        exact = rw (accepted-a k accepted, accepted-b k accepted) (opened (elementsOf k) (firstOf batch) (secondOf batch) (taggedBlocks batch) (batchBody batch) (batchTag batch) before
+            (λ x. inFront x before) (noiseTriple noise) (accepted-sound k accepted) (wb .front .first-words) (wb .front .second-words) (noise-ternary noise));
         counts = λ zero. on-done (countOf batch) lent (number-done (says o) .0 zero);
         kept = λ refused. on-refusal (says o) (countOf batch) lent refused;
         dummy-free = λ other h.

@@ -4,8 +4,8 @@ use native.Mathlib.Omega.{arith}
 use Rattle.answers.proofs.AnswerLaws.{then-refuses}
 use Rattle.batch_records.specs.Batches.{batchTag, taggedBlocks}
 use Rattle.public_keys.proofs.PublicLaws.{public-refused, public-exhausted}
-use Rattle.keys.specs.Keys.{secretAnswer}
-use Rattle.keys.proofs.KeyLaws.{secret-refused}
+use Rattle.secret_keys.specs.SecretKeys.{secretAnswer}
+use Rattle.secret_keys.proofs.SecretLaws.{secret-not-invertible}
 use Rattle.calls.proofs.Lengths.{says-after-lengths}
 use Rattle.batch_calls.specs.Calls.{batchOutcome, openBatchAnswer}
 use Rattle.batch_calls.specs.Promises.{KeysExact}
@@ -29,9 +29,7 @@ keys-exact = record {
       (says-after-lengths 6 _ (omega arith) (opening-fits k batch noise room)
       (Iff·trans
       (then-refuses (secretAnswer k) (omega arith)
-      (batch-rest-never batch (omega arith) (omega arith) (batchOutcome k batch noise) (taggedBlocks batch) (batchTag batch)))
-      (secret-refused k))) (
-        λ (fits, (front, codes, none)). (fits, record { size = fits .0; front = front; codes = codes }, none),
-        λ (fits, w, none). (fits, (w .front, w .codes, none)),
-      );
+      (batch-rest-never batch (omega arith) (λ h. omega arith) (batchOutcome k batch noise) (taggedBlocks batch) (batchTag batch)))
+      (secret-not-invertible k)))
+      (λ (fits, (w, none)). (fits, w, none), λ (fits, w, none). (fits, (w, none)));
 }

@@ -7,12 +7,12 @@ use Prim.Native.Nat.{ℕ, _≤_}
 use lib.Dec.{eqb, leb}
 use lib.ListN.{length}
 use borrow.Author.Tests.{leb-true, le-leb}
-use Rattle.records.specs.Layout.{secretKeyLength}
+use Rattle.records.specs.Layout.{headerLength}
 use Rattle.batch_records.specs.Batches.{batchOverhead, batchLength, mostEntries, entriesLength, count?}
 use Rattle.batch_records.specs.WellFormed.{Count}
 use Rattle.public_keys.specs.PublicKeys.{publicLength?}
 use Rattle.keys.specs.Keys.{tripleNoiseLength}
-use Rattle.calls.proofs.Lengths.{one-fits, three-fit}
+use Rattle.calls.proofs.Lengths.{header-fits, three-fit}
 use Rattle.batch_calls.specs.Calls.{entries}
 use Rattle.batch_calls.specs.Promises.{SealingFits, OpeningFits}
 
@@ -36,10 +36,10 @@ sealing-fits k noise blocks room = three-fit (publicLength? (length k)) Iff·rfl
 
 -- a batch has the bytes that stand beside its body at least
 pub opening-fits : (k batch noise : List ℕ) (room : ℕ)
-    → (eqb (length k) secretKeyLength && leb batchOverhead (length batch) && eqb (length noise) tripleNoiseLength && eqb room entriesLength ≡ true)
+    → (leb headerLength (length k) && leb batchOverhead (length batch) && eqb (length noise) tripleNoiseLength && eqb room entriesLength ≡ true)
     ↔ OpeningFits k batch noise room
 opening-fits k batch noise room =
     Iff·trans
-    (three-fit (eqb (length k) secretKeyLength && leb batchOverhead (length batch))
-    (both-fit (one-fits (length k) secretKeyLength) (at-most-iff batchOverhead (length batch))) (length noise) tripleNoiseLength room entriesLength)
+    (three-fit (leb headerLength (length k) && leb batchOverhead (length batch))
+    (both-fit (header-fits k) (at-most-iff batchOverhead (length batch))) (length noise) tripleNoiseLength room entriesLength)
     (λ ((h1, h2), h3, h4). (h1, h2, h3, h4), λ (h1, h2, h3, h4). ((h1, h2), h3, h4))

@@ -15,13 +15,13 @@ use Rattle.batch_records.specs.Batches.{batchLength, countOf, batchTag, taggedB
 use Rattle.batch_records.specs.WellFormed.{Count}
 use Rattle.public_keys.specs.WellFormed.{PublicNamed}
 use Rattle.public_keys.proofs.PublicLaws.{public-named, public-never}
-use Rattle.keys.specs.Keys.{secretAnswer}
-use Rattle.keys.proofs.KeyLaws.{secret-named}
-use Rattle.calls.specs.Located.{SecretNamed}
+use Rattle.secret_keys.specs.SecretKeys.{secretAnswer}
+use Rattle.secret_keys.specs.WellFormed.{SecretNamed}
+use Rattle.secret_keys.proofs.SecretLaws.{secret-named}
 use Rattle.calls.proofs.Behind.{opened-never}
 use Rattle.calls.proofs.Lengths.{names-after-lengths}
 use Rattle.calls.proofs.LocatedExact.{names-after-key}
-use Rattle.calls.proofs.CodesRead.{in-two-small, public-small, by-number}
+use Rattle.calls.proofs.CodesRead.{in-two-small, public-small, secret-small, by-number}
 use Rattle.batch_calls.specs.Calls.{sealBatchAnswer, batchOutcome, openBatchAnswer}
 use Rattle.batch_calls.specs.Promises.{SealingFits, OpeningFits, WholeEntries, BeforeCount, NamedExact}
 use Rattle.batch_calls.proofs.Lengths.{opening-fits}
@@ -45,15 +45,11 @@ module _ (k batch noise : List ℕ) (room : ℕ) where
   open-4 : (l : Location) → Names 4 l (openBatchAnswer k batch noise room) ↔ (OpeningFits k batch noise room × SecretNamed k l)
   unfolding openBatchAnswer
   open-4 l =
-      Iff·trans
-      (names-after-lengths 4 l _ (omega arith) (opening-fits k batch noise room)
+      names-after-lengths 4 l _ (omega arith) (opening-fits k batch noise room)
       (Iff·trans
       (names-first (secretAnswer k) (omega arith)
-      (batch-rest-never batch (omega arith) (omega arith) (batchOutcome k batch noise) (taggedBlocks batch) (batchTag batch)))
-      (secret-named k l))) (
-        λ (fits, (mark, version, named)). (fits, ((fits .0, mark, version), named)),
-        λ (fits, ((size, mark, version), named)). (fits, (mark, version, named)),
-      )
+      (batch-rest-never batch (omega arith) (λ h. omega arith) (batchOutcome k batch noise) (taggedBlocks batch) (batchTag batch)))
+      (secret-named k l))
 
   -- 11 names a word of c1 or c2
   open-11 : (l : Location) → Names 11 l (openBatchAnswer k batch noise room)
@@ -81,6 +77,6 @@ named-exact = record {
       by-number (sealBatchAnswer k noise blocks room) (λ e. public-small k (seal-4 k noise blocks room _ .0 (e, refl) .2))
       (λ e. absurd (seal-never k noise blocks room e));
   open-code = λ k batch noise room.
-      by-number (openBatchAnswer k batch noise room) (λ e. in-two-small (open-4 k batch noise room _ .0 (e, refl) .1 .1))
+      by-number (openBatchAnswer k batch noise room) (λ e. secret-small k (open-4 k batch noise room _ .0 (e, refl) .1))
       (λ e. in-two-small (open-11 k batch noise room _ .0 (e, refl) .3));
 }

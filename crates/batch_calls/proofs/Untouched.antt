@@ -15,7 +15,7 @@ use Rattle.answers.proofs.AnswerLaws.{number-done, unless-done, then-done, on-d
 use Rattle.records.proofs.WrittenRecords.{part-length}
 use Rattle.batch_records.specs.Batches.{bodyPlace, countOf, batchBody, batchTag, taggedBlocks, batchAnswer}
 use Rattle.batch_records.specs.WellFormed.{WellFormedBatch}
-use Rattle.keys.specs.Keys.{secretAnswer}
+use Rattle.secret_keys.specs.SecretKeys.{secretAnswer}
 use Rattle.calls.specs.Calls.{openedAnswer, openedEntry}
 use Rattle.batch_calls.specs.Calls.{sealBatchAnswer, sealBatchOut, batchOutcome, openBatchAnswer, inFront, openBatchOut, openBatchCount}
 use Rattle.batch_calls.specs.Promises.{Untouched}

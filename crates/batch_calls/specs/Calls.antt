@@ -10,11 +10,12 @@ use Rattle.derivation.specs.Derivation.{bodyOf, tagOf}
 use Rattle.answers.specs.declared.Refusal.the-variants as Refusal
 use Rattle.answers.specs.declared.Answer.{Answer}
 use Rattle.answers.specs.Answers.{unless, andThen, onDone}
-use Rattle.records.specs.Layout.{secretKeyLength}
+use Rattle.records.specs.Layout.{headerLength}
 use Rattle.records.specs.Records.{firstOf, secondOf}
 use Rattle.batch_records.specs.Batches.{batchOverhead, batchLength, entriesLength, countOf, countBlock, count?, batchBody, batchTag, taggedBlocks, batchAnswer, batchBytes}
 use Rattle.public_keys.specs.PublicKeys.{publicLength?, publicA, publicB, publicAnswer}
-use Rattle.keys.specs.Keys.{secretAnswer, elementsOf, tripleNoiseLength, noiseTriple}
+use Rattle.secret_keys.specs.SecretKeys.{elementsOf, secretAnswer}
+use Rattle.keys.specs.Keys.{tripleNoiseLength, noiseTriple}
 use Rattle.calls.specs.Calls.{outcome, openedAnswer, openedEntry}
 
 -- ---- seal a batch of entries, 16 bytes each; the key is a public record of either kind
@@ -46,7 +47,7 @@ sealedBatch k noise blocks = batchWith (publicA k) (publicB k) (noiseTriple nois
 unfoldable pub sealBatchOut : (key noise blocks out : List ℕ) → List ℕ
 sealBatchOut k noise blocks out = onDone (sealBatchAnswer k noise blocks (length out)) (sealedBatch k noise blocks) out
 
--- ---- open a batch, with a dummy from noise
+-- ---- open a batch, with a dummy from noise; the key is a secret record of either version
 
 -- what is found in it
 abbrev pub batchOutcome : (key batch noise : List ℕ) → Outcome
@@ -55,7 +56,7 @@ batchOutcome k batch noise = outcome (elementsOf k) (noiseTriple noise) (firstOf
 -- 1, then the key, then the batch, then 9, 10
 unfoldable pub openBatchAnswer : (key batch noise : List ℕ) (room : ℕ) → Answer
 openBatchAnswer k batch noise room =
-    unless (eqb (length k) secretKeyLength && leb batchOverhead (length batch) && eqb (length noise) tripleNoiseLength && eqb room entriesLength)
+    unless (leb headerLength (length k) && leb batchOverhead (length batch) && eqb (length noise) tripleNoiseLength && eqb room entriesLength)
     Refusal.WrongLength
     (andThen (secretAnswer k)
     (andThen (batchAnswer batch)

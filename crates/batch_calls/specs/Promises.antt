@@ -15,7 +15,7 @@ use Rattle.derivation.specs.Derivation.{key1, key2, tagOf, entryOf}
 use Rattle.answers.specs.declared.Location.{Location}
 use Rattle.answers.specs.Answers.{number}
 use Rattle.answers.specs.Locations.{sealedEntry, c1Part, c2Part, Names}
-use Rattle.records.specs.Layout.{sealedEntryMark, secretKeyLength, blockLength}
+use Rattle.records.specs.Layout.{sealedEntryMark, headerLength, blockLength}
 use Rattle.records.specs.Records.{firstOf, secondOf}
 use Rattle.records.specs.WellFormed.{WellFormedSeededKey, WellFormedKey}
 use Rattle.records.specs.Named.{NamedInTwo}
@@ -23,10 +23,11 @@ use Rattle.batch_records.specs.Batches.{batchOverhead, batchLength, entriesLeng
 use Rattle.batch_records.specs.WellFormed.{Count, WellFormedBatch}
 use Rattle.public_keys.specs.PublicKeys.{publicLength?, publicA, publicB}
 use Rattle.public_keys.specs.WellFormed.{SeedFills, PublicRecord, PublicNamed}
+use Rattle.secret_keys.specs.WellFormed.{LengthMisfits, SecretNamed}
 use Rattle.keys.specs.Keys.{tripleNoiseLength}
 use Rattle.calls.specs.Calls.{checkAnswer, keygenAnswer, seededKeygenAnswer, encapsulateAnswer, decapsulateAnswer, sealAnswer, openAnswer}
 use Rattle.calls.specs.Promises.{Ternaries, Accepted, OpenedTo, PublicAccepted, PublicOf, Bytes}
-use Rattle.calls.specs.Located.{SecretNamed, ReadBack}
+use Rattle.calls.specs.Located.{ReadBack}
 use Rattle.batch_calls.specs.Calls.{entries, sealBatchAnswer, batchWith, sealBatchOut, openBatchAnswer, inFront, openBatchOut, openBatchCount}
 
 -- ---- demand 3
@@ -52,12 +53,13 @@ OpenBatchExact k batch noise before lent said after value =
 
 -- ---- 1 and 12
 
--- what is lent beside the entries to sealing, and all that is lent to opening, has the right length
+-- what is lent beside the entries to sealing, and all that is lent to opening, has the right length; a secret key has a header, and its
+-- version sets the rest
 abbrev pub SealingFits : (k noise blocks : List ℕ) (room : ℕ) → Type 0
 SealingFits k noise blocks room = (publicLength? (length k) ≡ true) × (length noise ≡ tripleNoiseLength) × (room ≡ batchLength (entries blocks))
 
 abbrev pub OpeningFits : (k batch noise : List ℕ) (room : ℕ) → Type 0
-OpeningFits k batch noise room = (length k ≡ secretKeyLength) × (batchOverhead ≤ length batch) × (length noise ≡ tripleNoiseLength) × (room ≡ entriesLength)
+OpeningFits k batch noise room = (headerLength ≤ length k) × (batchOverhead ≤ length batch) × (length noise ≡ tripleNoiseLength) × (room ≡ entriesLength)
 
 -- whole entries, 1 to 255 of them
 abbrev pub WholeEntries : List ℕ → Type 0
@@ -68,7 +70,7 @@ abbrev pub BeforeCount : (k batch noise : List ℕ) (room : ℕ) → Type 0
 BeforeCount k batch noise room =
     OpeningFits k batch noise room × Accepted k × (hasMark sealedEntryMark batch ≡ true) × (versionOf batch ≡ 2)
 
--- 1 is said in two places of either call, and exactly there
+-- 1 is said in two places of sealing and in three of opening, and exactly there
 pub record WrongLengthExact : Type 0 where
   pub seal : (k noise blocks : List ℕ) (room : ℕ)
       → (number (sealBatchAnswer k noise blocks room) ≡ 1)
@@ -76,7 +78,8 @@ pub record WrongLengthExact : Type 0 where
   pub open-batch : (k batch noise : List ℕ) (room : ℕ)
       → (number (openBatchAnswer k batch noise room) ≡ 1)
       ↔ (¬ (OpeningFits k batch noise room)
-      ⊎ (BeforeCount k batch noise room × Count (countOf batch) × ¬ (length batch ≡ batchLength (countOf batch))))
+      ⊎ ((OpeningFits k batch noise room × LengthMisfits k)
+      ⊎ (BeforeCount k batch noise room × Count (countOf batch) × ¬ (length batch ≡ batchLength (countOf batch)))))
 
 -- 12, and none of the other calls says it
 pub record WrongCountExact : Type 0 where

@@ -15,13 +15,14 @@ use Rattle.answers.specs.declared.Refusal.the-variants.{WrongLength, WrongCount
 use Rattle.answers.specs.declared.Answer.{Answer}
 use Rattle.answers.specs.declared.Answer.the-variants.{Done, Refused}
 use Rattle.answers.specs.Answers.{unless, andThen, onDone}
-use Rattle.records.specs.Layout.{sealedEntryMark, secretKeyLength}
+use Rattle.records.specs.Layout.{headerLength, sealedEntryMark}
 use Rattle.records.specs.Records.{headerAnswer, c1Word, c2Word, elementsAnswer, firstOf, secondOf}
 use Rattle.batch_records.specs.Batches.{bodyPlace, batchOverhead, batchLength, entriesLength, countOf, countBlock, count?, batchBody, batchTag, taggedBlocks, batchAnswer}
 use Rattle.batch_records.specs.Read.{countAnswer, held?, bodyLength}
 use Rattle.batch_records.proofs.Laws.{batch-front}
 use Rattle.sealed_records.specs.Front.{sealedFrontAnswer}
-use Rattle.keys.specs.Keys.{secretAnswer, tripleNoiseLength}
+use Rattle.secret_keys.specs.SecretKeys.{secretAnswer}
+use Rattle.keys.specs.Keys.{tripleNoiseLength}
 use Rattle.calls.specs.Calls.{openedEntry}
 use Rattle.batch_calls.specs.Calls.{batchOutcome, openBatchAnswer, inFront, openBatchOut, openBatchCount}
 use Rattle.batch_calls.proofs.Untouched.{length-opened}
@@ -116,7 +117,7 @@ module _ (k batch noise out : List ℕ) {s : ℕ} (es : s ≡ bodyLength (countO
 
 module _ (k batch noise : List ℕ) (room : ℕ) where
   abbrev fits? : Bool
-  fits? = eqb (length k) secretKeyLength && leb batchOverhead (length batch) && eqb (length noise) tripleNoiseLength && eqb room entriesLength
+  fits? = leb headerLength (length k) && leb batchOverhead (length batch) && eqb (length noise) tripleNoiseLength && eqb room entriesLength
 
   pub lengths-refused : fits? ≡ false → Refused WrongLength ≡ openBatchAnswer k batch noise room
   unfolding openBatchAnswer

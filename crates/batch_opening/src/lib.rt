@@ -6,13 +6,12 @@ use batch_records::BATCH_OVERHEAD;
 use batch_records::BATCH_VERSION;
 use batch_records::BODY;
 use batch_records::ENTRIES_LENGTH;
+use encoding::HEADER_LENGTH;
 use keys::TRIPLE_NOISE_LENGTH;
-use records::SECRET_KEY_LENGTH;
 ghost use mathlib.Core.Path.{_≡_};
 ghost use Prim.Native.Nat.{_≤_};
 ghost use lib.ListN.{length};
 ghost use Rattle.answers.specs.Answers.{number, onDone};
-ghost use Rattle.records.specs.Layout.{secretKeyLength};
 ghost use Rattle.keys.specs.Keys.{tripleNoiseLength};
 ghost use Rattle.batch_records.specs.Batches.{batchOverhead, entriesLength, countOf};
 ghost use Rattle.batch_calls.specs.Calls.{openBatchAnswer, openBatchOut, openBatchCount};
@@ -36,10 +35,10 @@ fn count_shown(answer: Answer, m: usize) -> u32
     0
 }
 
-// Of a key, a batch, noise and an output that fit. A batch whose length does not fit its count is refused as it is read, and opened without a
+// Of any key, and a batch, noise and an output that fit. A batch whose length does not fit its count is refused as it is read, and opened without a
 // body.
 fn open_records(key: &[u8], batch: &[u8], noise: &[u8], out: &mut [u8]) -> OpenedBatch
-    requires { ⌜ (length (now key) ≡ secretKeyLength) × (batchOverhead ≤ length (now batch)) × (length (now noise) ≡ tripleNoiseLength) × (length (now out) ≡ entriesLength) ⌝ }
+    requires { ⌜ (batchOverhead ≤ length (now batch)) × (length (now noise) ≡ tripleNoiseLength) × (length (now out) ≡ entriesLength) ⌝ }
     ensures { λ o. ⌜ o .answer ≡ entriesAnswer (now (key .entry)) (now (batch .entry)) (now (noise .entry)) ⌝ }
     ensures { λ o. ⌜ o .count ≡ onDone (entriesAnswer (now (key .entry)) (now (batch .entry)) (now (noise .entry))) (countOf (now (batch .entry))) 0 ⌝ }
     ensures { λ _. ⌜ now (out .exit) ≡ shownEntries (now (key .entry)) (now (batch .entry)) (now (noise .entry)) (now (out .entry)) ⌝ }
@@ -73,7 +72,7 @@ pub fn open_batch(key: &[u8], batch: &[u8], noise: &[u8], out: &mut [u8]) -> Ope
     ensures { λ _. ⌜ now (out .exit) ≡ openBatchOut (now (key .entry)) (now (batch .entry)) (now (noise .entry)) (now (out .entry)) ⌝ }
     ensures { λ o. ⌜ OpenBatchExact (now (key .entry)) (now (batch .entry)) (now (noise .entry)) (now (out .entry)) 0 (number (o .answer)) (now (out .exit)) (o .count) ⌝ }
 {
-    let fits = (key.len() == SECRET_KEY_LENGTH)
+    let fits = (HEADER_LENGTH <= key.len())
         & (BATCH_OVERHEAD <= batch.len())
         & (noise.len() == TRIPLE_NOISE_LENGTH)
         & (out.len() == ENTRIES_LENGTH);

@@ -14,6 +14,8 @@ pub enum Call {
     Seal,
     Open,
     SealBatch,
+    ExpandSecretKey,
+    CompactSecretKey,
     Shake128,
     Shake256,
 }
@@ -28,6 +30,8 @@ fn run(call: Call, x: &[u8], y: &[u8], z: &[u8], out: &mut [u8]) -> Answer
         Call::Seal => sealing::seal(x, y, z, out),
         Call::Open => opening::open(x, y, z, out),
         Call::SealBatch => batch_sealing::seal_batch(x, y, z, out),
+        Call::ExpandSecretKey => key_conversion::expand_secret_key(x, out),
+        Call::CompactSecretKey => key_conversion::compact_secret_key(x, out),
         Call::Shake128 => {
             shake::shake128(x, out);
             Answer::Done
@@ -48,6 +52,8 @@ pub fn size_field(call: Call) -> usize
         Call::Seal => 3,
         Call::Open => 3,
         Call::SealBatch => 3,
+        Call::ExpandSecretKey => 1,
+        Call::CompactSecretKey => 1,
         Call::Shake128 => 1,
         Call::Shake256 => 1,
     }

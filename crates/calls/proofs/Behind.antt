@@ -10,7 +10,7 @@ use Rattle.records.specs.Records.{sealedEntryAnswer, encapsulationAnswer}
 use Rattle.triples.specs.Triple.{tripleAnswer}
 use Rattle.calls.specs.Calls.{outcomeAnswer, openedAnswer}
 use Rattle.answers.proofs.AnswerLaws.{Never, unless-never, done-never, then-never}
-use Rattle.records.proofs.RecordLaws.{sealed-entry-never, encapsulation-never}
+use Rattle.records.proofs.RecordLaws.{OneOrAbove, sealed-entry-never, encapsulation-never}
 use Rattle.triples.proofs.TripleLaws.{triple-never}
 
 module _ {n : ℕ} (some : 0 < n) (no-triple : ¬ (9 ≡ n)) where
@@ -31,6 +31,6 @@ module _ {n : ℕ} (some : 0 < n) (no-triple : ¬ (9 ≡ n)) where
   encapsulation-rest-never bad-code bad-word c d o = then-never (encapsulation-never some bad-word c) (behind-words-never bad-code d o)
 
   -- with the record of a sealed entry
-  pub entry-rest-never : 3 < n → ¬ (10 ≡ n) → ¬ (11 ≡ n) → (e : List ℕ) (o : Outcome) (body tag : List ℕ)
+  pub entry-rest-never : OneOrAbove 3 n → ¬ (10 ≡ n) → ¬ (11 ≡ n) → (e : List ℕ) (o : Outcome) (body tag : List ℕ)
       → Never n (andThen (sealedEntryAnswer e) (openedAnswer o body tag))
   entry-rest-never h bad-tag bad-word e o body tag = then-never (sealed-entry-never h bad-word e) (opened-never bad-tag o body tag)

@@ -7,7 +7,6 @@ use native.Mathlib.Omega.{arith}
 use lib.ListN.{length}
 use Rattle.exactness.specs.Promises.{Exact}
 use Rattle.ring.specs.Ring.{Element}
-use Rattle.ring.specs.Invertible.{inverseOf}
 use Rattle.scheme.specs.Scheme.{Triple, Outcome, found, setting}
 use Rattle.scheme.proofs.Steps.{triple-same}
 use Rattle.answers.specs.declared.Refusal.the-variants.{WrongLength}
@@ -19,7 +18,7 @@ use Rattle.records.specs.Layout.{tripleLength}
 use Rattle.records.specs.Records.{firstOf, secondOf, c1Of, c2Of}
 use Rattle.triples.specs.Triple.{rOf, e1Of, e2Of}
 use Rattle.triples.specs.Triple.{tripleOf}
-use Rattle.keys.specs.Keys.{KeyElements, elementsOf}
+use Rattle.secret_keys.specs.SecretKeys.{KeyElements, elementsOf}
 use Rattle.calls.specs.Calls.{outcome, outcomeAnswer, outcomeBytes, decapsulateAnswer, decapsulateOut}
 use Rattle.records.specs.WellFormed.{WellFormedEncapsulation}
 use Rattle.triples.specs.WellFormed.{WellFormedTriple}
@@ -31,8 +30,8 @@ use Rattle.calls.proofs.Behind.{outcome-never}
 use Rattle.triples.proofs.TripleLaws.{triple-done}
 use Rattle.triples.proofs.WrittenTriples.{triple-r, triple-e1, triple-e2}
 use Rattle.calls.proofs.Lengths.{decapsulate-fits}
-use Rattle.calls.proofs.CheckExact.{accepted-iff, accepted-done}
-use Rattle.calls.proofs.Outcomes.{coded-ternary, Sound, accepted-sound, outcome-exact, outcome-free, outcome-ternary, found-answer, failed-answer}
+use Rattle.calls.proofs.CheckExact.{accepted-size, accepted-done}
+use Rattle.calls.proofs.Outcomes.{coded-ternary, Sound, accepted-sound, accepted-a, accepted-b, outcome-exact, outcome-free, outcome-ternary, found-answer, failed-answer}
 
 -- two ternary triples with the same bytes
 same-bytes : {t u : Triple} → Ternaries t → Ternaries u → tripleBytes (t .r) (t .e1) (t .e2) ≡ tripleBytes (u .r) (u .e1) (u .e2) → t ≡ u
@@ -72,7 +71,7 @@ decapsulated key c1 c2 before dummy sound h1 h2 h = record {
     o : Outcome
     o = outcome key dummy c1 c2
 
-    exact : Exact setting (key .a) (key .b) (inverseOf (key .b)) (key .s) c1 c2 dummy
+    exact : Exact setting (key .a) (key .b) (key .inverse) (key .s) c1 c2 dummy
     exact = outcome-exact key c1 c2 dummy sound h1 h2 h
 
 -- ---- over bytes
@@ -87,7 +86,7 @@ module _ (k c before : List ℕ) (accepted : Accepted k) (wc : WellFormedEncapsu
   unfolding decapsulateAnswer
   decides d wd =
       unless-passed WrongLength _
-      (decapsulate-fits k c d (length before) .1 (accepted-iff k .0 accepted .0 .size, wc .size, wd .size, room))
+      (decapsulate-fits k c d (length before) .1 (accepted-size k accepted, wc .size, wd .size, room))
       ∙ then-passed _ (accepted-done k accepted)
       ∙ then-passed _ (encapsulation-done c .1 (wc .c1-words, wc .c2-words))
       ∙ then-passed _ (triple-done d .1 (wd .r-codes, wd .e1-codes, wd .e2-codes))
@@ -103,7 +102,7 @@ module _ (k c before : List ℕ) (accepted : Accepted k) (wc : WellFormedEncapsu
       × (decapsulateOut k c other before ≡ decapsulateOut k c d before))
   exactly d wd =
       let sound = accepted-sound k accepted in
-      rw (decides d wd, writes d wd) (
+      rw (decides d wd, writes d wd, accepted-a k accepted, accepted-b k accepted) (
         decapsulated (elementsOf k) (c1Of c) (c2Of c) before (tripleOf d) sound (wc .c1-words) (wc .c2-words) (coded-ternary d),
         λ other w.
             let same = outcome-free (elementsOf k) (c1Of c) (c2Of c) (tripleOf d) sound (wc .c1-words) (wc .c2-words) (coded-ternary d) (tripleOf other) (coded-ternary other) in

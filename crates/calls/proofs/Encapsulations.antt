@@ -13,6 +13,8 @@ use Rattle.records.specs.Records.{firstOf, secondOf}
 use Rattle.public_keys.specs.PublicKeys.{publicLength?, publicA, publicB, publicAnswer}
 use Rattle.calls.specs.Promises.{Accepted, Ternaries, Encapsulates, PublicOf}
 use Rattle.public_keys.proofs.PublicLaws.{public-done}
+use Rattle.secret_keys.proofs.SecretLaws.{second-words}
+use Rattle.secret_keys.proofs.ElementLaws.{first-words, unit-invertible}
 use Rattle.calls.proofs.CheckExact.{accepted-iff}
 
 pub masked-element : (a r e : List ℕ) → Element (masked a r e)
@@ -22,14 +24,14 @@ module _ {p k : List ℕ} (public : PublicOf p k) where
   -- the public check passes
   pub public-accepted : Accepted k → (publicLength? (length p) ≡ true) × (publicAnswer p ≡ Done)
   public-accepted accepted =
-      let (w, unit, matches) = accepted-iff k .0 accepted in
+      let (expanded, w, unit, matches) = accepted-iff k .0 accepted in
       public-done p .1 (
         record {
           header = public .header;
-          a-words = rw (public .same-a) (w .front .first-words);
-          b-words = rw (public .same-b) (w .front .second-words);
+          a-words = rw (public .same-a) (first-words k expanded w);
+          b-words = rw (public .same-b) (second-words k expanded w);
         },
-        rw (public .same-b) unit,
+        rw (public .same-b) (unit-invertible k expanded w unit),
       )
 
   -- the formula with the public record's a and b is that with the key's

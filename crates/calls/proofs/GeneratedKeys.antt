@@ -28,7 +28,7 @@ use Rattle.calls.specs.Calls.{keygenAnswer, newPublicKey, newSecretKey, 
 use Rattle.calls.specs.Calls.{seededKeygenAnswer, newSeededKey, seededKeygenPublic, seededKeygenSecret}
 use Rattle.records.specs.WellFormed.{WellFormedFront, WellFormedSeededKey, WellFormedKey}
 use Rattle.calls.specs.Promises.{Accepted, PublicOf}
-use Rattle.keys.specs.Keys.{elementsOf, Matches}
+use Rattle.secret_keys.specs.WellFormed.{Matches}
 use Rattle.answers.proofs.AnswerLaws.{number-done, on-done}
 use Rattle.records.specs.Layout.{publicKeyMark, secretKeyMark, publicKeyLength, seedLength, seededKeyLength}
 use Rattle.records.proofs.Writing.{length-recordBytes}
@@ -85,14 +85,14 @@ module _ (stream s e : List ℕ) where
   secret-well-formed = record { size = secret-size; front = secret-front; codes = rw secret-codes (ternaryBytes-valid (ternaryNoise s)) }
 
   -- b = 5 (a × s + e), by the e of the noise
-  secret-matches : Matches (elementsOf k)
+  secret-matches : Matches k
   unfolding keygenB
   secret-matches =
       let is-s : secretOf k ≡ ternaryNoise s = ap ternaryOf secret-codes ∙ ternaryOf-bytes (ternaryNoise s) (ternaryNoise-ternary s) in
       (ternaryNoise e, ternaryNoise-ternary e, rw (secret-first, secret-second, is-s) refl)
 
   secret-accepted : Invertible b → Accepted k
-  secret-accepted unit = accepted-iff k .1 (secret-well-formed, rw secret-second unit, secret-matches)
+  secret-accepted unit = accepted-iff k .1 (false, secret-well-formed, rw secret-second unit, secret-matches)
 
   -- ---- the parts of the public key
 

@@ -3,11 +3,11 @@ use mathlib.Core.Path.{_≡_}
 use mathlib.Core.Bool.{Bool, true, _&&_, and-eq-true-iff}
 use mathlib.Core.Logic.{_↔_, Iff·rfl, Iff·trans, Iff·and}
 use mathlib.Core.List.{List}
-use Prim.Native.Nat.{ℕ, _<_}
+use Prim.Native.Nat.{ℕ, _<_, _≤_}
 use native.Mathlib.Omega.{arith}
-use lib.Dec.{eqb}
+use lib.Dec.{eqb, leb}
 use lib.ListN.{length}
-use borrow.Author.Tests.{eqb-true, eq-eqb}
+use borrow.Author.Tests.{eqb-true, eq-eqb, leb-true, le-leb}
 use Rattle.answers.specs.declared.Refusal.the-variants.{WrongLength}
 use Rattle.answers.specs.declared.Answer.{Answer}
 use Rattle.answers.specs.declared.Location.{Location}
@@ -20,6 +20,10 @@ use Rattle.public_keys.specs.PublicKeys.{publicLength?}
 
 pub one-fits : (i i′ : ℕ) → (eqb i i′ ≡ true) ↔ (i ≡ i′)
 one-fits i i′ = (eqb-true i i′, eq-eqb i i′)
+
+-- a secret key has a header
+pub header-fits : (k : List ℕ) → (leb 5 (length k) ≡ true) ↔ (5 ≤ length k)
+header-fits k = (leb-true 5 (length k), le-leb 5 (length k))
 
 -- the first test is any
 pub three-fit : {F : Type 0} (first : Bool) → (first ≡ true) ↔ F → (j j′ k k′ : ℕ)
@@ -60,9 +64,9 @@ pub encapsulate-fits : (k t : List ℕ) (room : ℕ)
 encapsulate-fits k t room = three-fit (publicLength? (length k)) Iff·rfl (length t) 768 room 4096
 
 pub decapsulate-fits : (k c d : List ℕ) (room : ℕ)
-    → (eqb (length k) 4357 && eqb (length c) 4096 && eqb (length d) 768 && eqb room 768 ≡ true)
-    ↔ ((length k ≡ 4357) × (length c ≡ 4096) × (length d ≡ 768) × (room ≡ 768))
-decapsulate-fits k c d room = four-fit (eqb (length k) 4357) (one-fits (length k) 4357) (length c) 4096 (length d) 768 room 768
+    → (leb 5 (length k) && eqb (length c) 4096 && eqb (length d) 768 && eqb room 768 ≡ true)
+    ↔ ((5 ≤ length k) × (length c ≡ 4096) × (length d ≡ 768) × (room ≡ 768))
+decapsulate-fits k c d room = four-fit (leb 5 (length k)) (header-fits k) (length c) 4096 (length d) 768 room 768
 
 pub seal-fits : (k noise entry : List ℕ) (room : ℕ)
     → (publicLength? (length k) && eqb (length noise) 1536 && eqb (length entry) 16 && eqb room 4133 ≡ true)
@@ -70,9 +74,9 @@ pub seal-fits : (k noise entry : List ℕ) (room : ℕ)
 seal-fits k noise entry room = four-fit (publicLength? (length k)) Iff·rfl (length noise) 1536 (length entry) 16 room 4133
 
 pub open-fits : (k e noise : List ℕ) (room : ℕ)
-    → (eqb (length k) 4357 && eqb (length e) 4133 && eqb (length noise) 1536 && eqb room 16 ≡ true)
-    ↔ ((length k ≡ 4357) × (length e ≡ 4133) × (length noise ≡ 1536) × (room ≡ 16))
-open-fits k e noise room = four-fit (eqb (length k) 4357) (one-fits (length k) 4357) (length e) 4133 (length noise) 1536 room 16
+    → (leb 5 (length k) && eqb (length e) 4133 && eqb (length noise) 1536 && eqb room 16 ≡ true)
+    ↔ ((5 ≤ length k) × (length e ≡ 4133) × (length noise ≡ 1536) × (room ≡ 16))
+open-fits k e noise room = four-fit (leb 5 (length k)) (header-fits k) (length e) 4133 (length noise) 1536 room 16
 
 -- ---- what is said behind the lengths
 

@@ -3,6 +3,7 @@ pub mod Lengths
 pub mod WhenDone
 pub mod Behind
 -- Demand 3 over bytes.
+pub mod Converted
 pub mod CheckExact
 pub mod Outcomes
 pub mod DecapsulateExact

@@ -1,9 +1,9 @@
 -- Which word 4 and 11 name.
 use mathlib.Core.Path.{_≡_}
 use mathlib.Core.Bool.{Bool, true}
-use mathlib.Core.Logic.{_↔_, Iff·rfl, Iff·trans, Iff·and}
+use mathlib.Core.Logic.{_↔_, inl, inr, Iff·rfl, Iff·trans, Iff·and}
 use mathlib.Core.List.{List}
-use Prim.Native.Nat.{ℕ, _<_}
+use Prim.Native.Nat.{ℕ, _<_, _≤_}
 use native.Mathlib.Omega.{arith}
 use lib.ListN.{length}
 use Rattle.answers.specs.declared.Refusal.the-variants.{WrongLength}
@@ -16,23 +16,21 @@ use Rattle.records.specs.Records.{firstOf, secondOf, bodyPart, tagPart, sealedE
 use Rattle.triples.specs.Triple.{tripleOf}
 use Rattle.seeds.specs.Seeds.{seedStream}
 use Rattle.public_keys.specs.PublicKeys.{publicAnswer}
-use Rattle.keys.specs.Keys.{elementsOf, secretAnswer, noiseTriple}
+use Rattle.secret_keys.specs.SecretKeys.{elementsOf, secretAnswer}
+use Rattle.secret_keys.specs.WellFormed.{SecretNamed}
+use Rattle.keys.specs.Keys.{noiseTriple}
 use Rattle.calls.specs.Calls.{checkAnswer, keygenAnswer, seededKeygenAnswer, encapsulateAnswer, decapsulateAnswer, sealAnswer, openAnswer, outcome}
-use Rattle.calls.specs.Promises.{Accepted}
 use Rattle.calls.specs.Located.{LocatedExact}
-use Rattle.answers.proofs.AnswerLaws.{Never, number-done, unless-never, then-never, then-names, names-first}
+use Rattle.answers.proofs.AnswerLaws.{Never, unless-never, then-never, then-names, names-first}
 use Rattle.answers.proofs.CodeLaws.{names-none}
 use Rattle.records.proofs.NamedWords.{sealed-entry-named, encapsulation-named}
 use Rattle.triples.proofs.TripleLaws.{triple-never}
 use Rattle.public_keys.proofs.PublicLaws.{public-named, public-never}
-use Rattle.keys.proofs.KeyLaws.{secret-named, secret-never, generated-never}
+use Rattle.secret_keys.proofs.SecretLaws.{secret-named, secret-never}
+use Rattle.keys.proofs.KeyLaws.{generated-never}
 use Rattle.calls.proofs.Behind.{opened-never, behind-words-never, encapsulation-rest-never, entry-rest-never}
-use Rattle.calls.proofs.Lengths.{one-fits, keygen-fits, seeded-keygen-fits, encapsulate-fits, decapsulate-fits, seal-fits, open-fits, names-after-lengths}
-use Rattle.calls.proofs.WhenDone.{check-done}
-
--- a key is accepted where its length fits and its checks pass
-pub accepted : (k : List ℕ) → Accepted k ↔ ((length k ≡ 4357) × (secretAnswer k ≡ Done))
-accepted k = Iff·trans (number-done (checkAnswer k)) (check-done k)
+use Rattle.calls.proofs.Lengths.{header-fits, keygen-fits, seeded-keygen-fits, encapsulate-fits, decapsulate-fits, seal-fits, open-fits, names-after-lengths}
+use Rattle.calls.proofs.CheckExact.{accepted}
 
 -- ---- calls that never say a number
 
@@ -55,18 +53,23 @@ seeded-keygen-others n h six eight seed s e public secret =
 
 -- ---- the words
 
+-- a key that has a word named has a header
+pub named-size : (k : List ℕ) {l : Location} → SecretNamed k l → 5 ≤ length k
+named-size k (inl ((size, _, _), _)) = omega (arith, size)
+named-size k (inr ((size, _, _), _)) = omega (arith, size)
+
 -- behind the key's checks, which say no 11, those of a record name a word, and none behind them does
 pub names-after-key : (k : List ℕ) (l : Location) (a : Answer) {b : Answer} {N : Type 0} → Never 11 b → Names 11 l a ↔ N
     → Names 11 l (andThen (secretAnswer k) (andThen a b)) ↔ ((secretAnswer k ≡ Done) × N)
 names-after-key k l a rest named =
-    Iff·trans (then-names _ (secret-never (omega arith) k)) (Iff·and Iff·rfl (Iff·trans (names-first a (omega arith) rest) named))
+    Iff·trans (then-names _ (secret-never k (omega arith) (λ e. omega arith))) (Iff·and Iff·rfl (Iff·trans (names-first a (omega arith) rest) named))
 
 pub located-exact : LocatedExact
 unfolding checkAnswer encapsulateAnswer decapsulateAnswer sealAnswer openAnswer
 located-exact = record {
   check = λ k l.
-      Iff·trans (names-after-lengths 4 l (secretAnswer k) (omega arith) (one-fits (length k) 4357) (secret-named k l))
-      (λ (size, (mark, version, named)). ((size, mark, version), named), λ ((size, mark, version), named). (size, (mark, version, named)));
+      Iff·trans (names-after-lengths 4 l (secretAnswer k) (omega arith) (header-fits k) (secret-named k l))
+      (λ (size, named). named, λ named. (named-size k named, named));
   encapsulate = λ k t room l.
       Iff·trans
       (names-after-lengths 4 l _ (omega arith) (encapsulate-fits k t room)
@@ -81,7 +84,7 @@ located-exact = record {
       (names-first (secretAnswer k) (omega arith)
       (encapsulation-rest-never (omega arith) (λ e. omega arith) (λ e. omega arith) (λ e. omega arith) c d (outcome (elementsOf k) (tripleOf d) (c1Of c) (c2Of c))))
       (secret-named k l)))
-      with-key;
+      (with-key k);
   seal = λ k noise entry room l.
       Iff·trans (names-after-lengths 4 l (publicAnswer k) (omega arith) (seal-fits k noise entry room) Iff·rfl) (
         λ ((size, h1, h2, h3), names). (public-named k l .0 (size, names), h1, h2, h3),
@@ -95,7 +98,7 @@ located-exact = record {
       (entry-rest-never (omega arith) (λ e. omega arith) (omega arith) (λ e. omega arith) (λ e. omega arith) e
       (outcome (elementsOf k) (noiseTriple noise) (firstOf e) (secondOf e)) (bodyPart e) (tagPart e)))
       (secret-named k l)))
-      with-key;
+      (with-key k);
   of-encapsulation = λ k c d room l.
       Iff·trans
       (names-after-lengths 11 l _ (omega arith) (decapsulate-fits k c d room)
@@ -115,7 +118,7 @@ located-exact = record {
         λ ((size, h1, h2, h3), (key, (mark, version, named))). (accepted k .1 (size, key), (h1, mark, version), h2, h3, named),
         λ (key, (h1, mark, version), h2, h3, named). let (size, checked) = accepted k .0 key in ((size, h1, h2, h3), (checked, (mark, version, named))),
       );
-  check-never = λ k. never-after-lengths (omega arith) (one-fits (length k) 4357) (secret-never (omega arith) k);
+  check-never = λ k. never-after-lengths (omega arith) (header-fits k) (secret-never k (omega arith) (λ e. omega arith));
   encapsulate-never = λ k t room.
       never-after-lengths (omega arith) (encapsulate-fits k t room)
       (then-never (public-never k (omega arith)) (triple-never (omega arith) (λ e. omega arith) t));
@@ -130,9 +133,5 @@ located-exact = record {
 }
   where
     -- a secret key among the lengths of the other buffers
-    with-key : {Size Mark Version Named H1 H2 H3 : Type 0}
-        → ((Size × H1 × H2 × H3) × (Mark × Version × Named)) ↔ (((Size × Mark × Version) × Named) × H1 × H2 × H3)
-    with-key = (
-      λ ((size, h1, h2, h3), (mark, version, named)). (((size, mark, version), named), h1, h2, h3),
-      λ (((size, mark, version), named), h1, h2, h3). ((size, h1, h2, h3), (mark, version, named)),
-    )
+    with-key : (k : List ℕ) {l : Location} {H1 H2 H3 : Type 0} → (((5 ≤ length k) × H1 × H2 × H3) × SecretNamed k l) ↔ (SecretNamed k l × H1 × H2 × H3)
+    with-key k = (λ ((size, h1, h2, h3), named). (named, h1, h2, h3), λ (named, h1, h2, h3). ((named-size k named, h1, h2, h3), named))

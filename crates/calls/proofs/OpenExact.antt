@@ -7,7 +7,6 @@ use native.Mathlib.Omega.{arith}
 use lib.ListN.{length}
 use Rattle.exactness.specs.Promises.{Exact}
 use Rattle.ring.specs.Ring.{Element}
-use Rattle.ring.specs.Invertible.{inverseOf}
 use Rattle.scheme.specs.Scheme.{Triple, Outcome, found, setting}
 use Rattle.derivation.specs.Derivation.{tagOf, entryOf}
 use Rattle.answers.specs.declared.Refusal.the-variants.{WrongLength}
@@ -17,7 +16,8 @@ use Rattle.answers.specs.Answers.{number, onDone}
 use Rattle.answers.specs.Locations.{code}
 use Rattle.records.specs.Layout.{blockLength}
 use Rattle.records.specs.Records.{firstOf, secondOf, bodyPart, tagPart}
-use Rattle.keys.specs.Keys.{KeyElements, elementsOf, tripleNoiseLength, noiseTriple}
+use Rattle.secret_keys.specs.SecretKeys.{KeyElements, elementsOf}
+use Rattle.keys.specs.Keys.{tripleNoiseLength, noiseTriple}
 use Rattle.calls.specs.Calls.{outcome, openedAnswer, openedEntry, openAnswer, openOut}
 use Rattle.records.specs.WellFormed.{WellFormedEntry}
 use Rattle.calls.specs.Promises.{Accepted, Ternaries, OpenedTo, Opened, OpenExact}
@@ -26,8 +26,8 @@ use Rattle.answers.proofs.CodeLaws.{code-is-number}
 use Rattle.records.proofs.RecordLaws.{sealed-entry-done}
 use Rattle.calls.proofs.Behind.{opened-never}
 use Rattle.calls.proofs.Lengths.{open-fits}
-use Rattle.calls.proofs.CheckExact.{accepted-iff, accepted-done}
-use Rattle.calls.proofs.Outcomes.{noise-ternary, Sound, accepted-sound, outcome-exact, outcome-free, right-tag, wrong-tag, found-opened, failed-opened}
+use Rattle.calls.proofs.CheckExact.{accepted-size, accepted-done}
+use Rattle.calls.proofs.Outcomes.{noise-ternary, Sound, accepted-sound, accepted-a, accepted-b, outcome-exact, outcome-free, right-tag, wrong-tag, found-opened, failed-opened}
 
 -- ---- on elements: what the outcome says and writes
 
@@ -73,7 +73,7 @@ module _ (key : KeyElements) (c1 c2 blocks body tag before : List ℕ) (put : Li
       o : Outcome
       o = outcome key dummy c1 c2
 
-      exact : Exact setting (key .a) (key .b) (inverseOf (key .b)) (key .s) c1 c2 dummy
+      exact : Exact setting (key .a) (key .b) (key .inverse) (key .s) c1 c2 dummy
       exact = outcome-exact key c1 c2 dummy sound h1 h2 h
 
 -- ---- over bytes
@@ -95,7 +95,7 @@ module _ (k e before : List ℕ) (accepted : Accepted k) (we : WellFormedEntry e
   unfolding openAnswer
   decides noise size =
       unless-passed WrongLength _
-      (open-fits k e noise (length before) .1 (accepted-iff k .0 accepted .0 .size, we .size, size, room))
+      (open-fits k e noise (length before) .1 (accepted-size k accepted, we .size, size, room))
       ∙ then-passed _ (accepted-done k accepted)
       ∙ then-passed _ (sealed-entry-done e .1 (we .front))
 
@@ -111,7 +111,7 @@ module _ (k e before : List ℕ) (accepted : Accepted k) (we : WellFormedEntry e
       let sound = accepted-sound k accepted in
       let h1 = we .front .first-words in
       let h2 = we .front .second-words in
-      rw (decides noise size, writes noise size) (
+      rw (decides noise size, writes noise size, accepted-a k accepted, accepted-b k accepted) (
         opened (elementsOf k) (firstOf e) (secondOf e) (bodyPart e) (bodyPart e) (tagPart e) before (λ x. x) (noiseTriple noise) sound h1 h2 (noise-ternary noise),
         λ other h.
             let same = outcome-free (elementsOf k) (firstOf e) (secondOf e) (noiseTriple noise) sound h1 h2 (noise-ternary noise) (noiseTriple other) (noise-ternary other) in

@@ -7,24 +7,25 @@ use Prim.Native.Nat.{ℕ}
 use native.Mathlib.Omega.{arith}
 use Rattle.exactness.specs.Promises.{Exact}
 use Rattle.ring.specs.Ring.{Element}
-use Rattle.ring.specs.Invertible.{inverseOf}
 use Rattle.scheme.specs.Scheme.{Triple, Outcome, found, failed, setting}
 use Rattle.exactness.specs.Scheme.{SoundKey}
-use Rattle.scheme.proofs.Exactness.{exact, sound-key, found-ternary}
+use Rattle.scheme.proofs.Exactness.{exact, found-ternary}
 use Rattle.encoding.proofs.Codes.{ternaryOf-ternary}
 use Rattle.sampling.proofs.NoiseLaws.{ternaryNoise-ternary}
 use Rattle.derivation.specs.Derivation.{tagOf, genuine?}
 use Rattle.answers.specs.declared.Refusal.the-variants.{TagMismatch}
 use Rattle.answers.specs.declared.Answer.the-variants.{Done}
 use Rattle.answers.specs.Answers.{number, unless}
-use Rattle.records.specs.Records.{firstOf, secondOf, secretOf}
+use Rattle.records.specs.Records.{firstOf, secondOf}
 use Rattle.triples.specs.Triple.{tripleOf}
-use Rattle.keys.specs.Keys.{KeyElements, elementsOf, noiseTriple}
+use Rattle.secret_keys.specs.SecretKeys.{KeyElements, elementsOf}
+use Rattle.keys.specs.Keys.{noiseTriple}
 use Rattle.calls.specs.Calls.{outcome, outcomeAnswer, openedAnswer}
 use Rattle.calls.specs.Promises.{Accepted, Ternaries}
 use Rattle.answers.proofs.AnswerLaws.{unless-refuses}
 use Rattle.derivation.proofs.Laws.{genuine-iff}
-use Rattle.calls.proofs.CheckExact.{accepted-iff}
+use Rattle.secret_keys.proofs.ElementLaws.{secret-elements, secret-sound}
+use Rattle.calls.proofs.CheckExact.{accepted-done}
 
 -- ---- dummies are ternary, whatever bytes are lent
 
@@ -36,18 +37,24 @@ noise-ternary noise = record { r-ternary = ternaryNoise-ternary _; e1-ternary = 
 
 -- ---- exactness of the outcome, for a sound key
 
--- with the inverse of b
 abbrev pub Sound : KeyElements → Type 0
-Sound key = SoundKey setting (key .a) (key .b) (inverseOf (key .b)) (key .s)
+Sound key = SoundKey setting (key .a) (key .b) (key .inverse) (key .s)
 
 pub accepted-sound : (k : List ℕ) → Accepted k → Sound (elementsOf k)
 accepted-sound k accepted =
-    let (w, unit, matches) = accepted-iff k .0 accepted in
-    sound-key (firstOf k) (secondOf k) (secretOf k) (w .front .first-words) (w .front .second-words) (ternaryOf-ternary _) unit matches
+    let done = accepted-done k accepted in
+    rw (secret-elements k done) (secret-sound k done)
+
+-- its a and b
+pub accepted-a : (k : List ℕ) → Accepted k → firstOf k ≡ elementsOf k .a
+accepted-a k accepted = sym (ap (λ (p : KeyElements). p .a) (secret-elements k (accepted-done k accepted)))
+
+pub accepted-b : (k : List ℕ) → Accepted k → secondOf k ≡ elementsOf k .b
+accepted-b k accepted = sym (ap (λ (p : KeyElements). p .b) (secret-elements k (accepted-done k accepted)))
 
 module _ (key : KeyElements) (c1 c2 : List ℕ) (dummy : Triple) where
-  pub outcome-exact : Sound key → Element c1 → Element c2 → Ternaries dummy → Exact setting (key .a) (key .b) (inverseOf (key .b)) (key .s) c1 c2 dummy
-  outcome-exact = exact (key .a) (key .b) (inverseOf (key .b)) (key .s) c1 c2 dummy
+  pub outcome-exact : Sound key → Element c1 → Element c2 → Ternaries dummy → Exact setting (key .a) (key .b) (key .inverse) (key .s) c1 c2 dummy
+  outcome-exact = exact (key .a) (key .b) (key .inverse) (key .s) c1 c2 dummy
 
   -- under another dummy it is the same
   pub outcome-free : Sound key → Element c1 → Element c2 → Ternaries dummy → (other : Triple) → Ternaries other → outcome key other c1 c2 ≡ outcome key dummy c1 c2
@@ -56,7 +63,7 @@ module _ (key : KeyElements) (c1 c2 : List ℕ) (dummy : Triple) where
 
   pub outcome-ternary : (t : Triple) → outcome key dummy c1 c2 ≡ found t → Ternaries t
   unfolding outcome
-  outcome-ternary t e = found-ternary (key .a) (key .b) (inverseOf (key .b)) (key .s) dummy c1 c2 t e
+  outcome-ternary t e = found-ternary (key .a) (key .b) (key .inverse) (key .s) dummy c1 c2 t e
 
 -- ---- 0 and 9 of bare opening
 

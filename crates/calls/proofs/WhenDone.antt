@@ -3,7 +3,7 @@ use mathlib.Core.Path.{_≡_}
 use mathlib.Core.Bool.{Bool, true}
 use mathlib.Core.Logic.{_↔_, Iff·rfl, Iff·trans, Iff·and}
 use mathlib.Core.List.{List}
-use Prim.Native.Nat.{ℕ}
+use Prim.Native.Nat.{ℕ, _≤_}
 use lib.ListN.{length}
 use Rattle.ring.specs.Ring.{Invertible}
 use Rattle.sampling.specs.Stream.{taken}
@@ -15,21 +15,22 @@ use Rattle.records.specs.Records.{firstOf, secondOf, bodyPart, tagPart, sealedE
 use Rattle.triples.specs.Triple.{tripleAnswer}
 use Rattle.seeds.specs.Seeds.{seedStream}
 use Rattle.public_keys.specs.PublicKeys.{publicLength?, publicAnswer}
-use Rattle.keys.specs.Keys.{elementsOf, secretAnswer, keygenB, noiseTriple}
+use Rattle.secret_keys.specs.SecretKeys.{elementsOf, secretAnswer}
+use Rattle.keys.specs.Keys.{keygenB, noiseTriple}
 use Rattle.calls.specs.Calls.{checkAnswer, keygenAnswer, seededKeygenAnswer, outcome, outcomeAnswer, openedAnswer}
 use Rattle.triples.specs.Triple.{tripleOf}
 use Rattle.calls.specs.Calls.{encapsulateAnswer, decapsulateAnswer, sealAnswer, openAnswer}
 use Rattle.answers.proofs.AnswerLaws.{unless-done, then-done}
-use Rattle.calls.proofs.Lengths.{one-fits, keygen-fits, seeded-keygen-fits, encapsulate-fits, decapsulate-fits, seal-fits, open-fits}
+use Rattle.calls.proofs.Lengths.{header-fits, keygen-fits, seeded-keygen-fits, encapsulate-fits, decapsulate-fits, seal-fits, open-fits}
 use Rattle.keys.proofs.KeyLaws.{generated-done}
 
 -- the lengths fit, and what follows is Done
 done-after-lengths : {fit : Bool} {F G : Type 0} (a : Answer) → (fit ≡ true) ↔ F → (a ≡ Done) ↔ G → (unless fit WrongLength a ≡ Done) ↔ (F × G)
 done-after-lengths {fit} a f g = Iff·trans (unless-done fit WrongLength a) (Iff·and f g)
 
-pub check-done : (k : List ℕ) → (checkAnswer k ≡ Done) ↔ ((length k ≡ 4357) × (secretAnswer k ≡ Done))
+pub check-done : (k : List ℕ) → (checkAnswer k ≡ Done) ↔ ((5 ≤ length k) × (secretAnswer k ≡ Done))
 unfolding checkAnswer
-check-done k = done-after-lengths (secretAnswer k) (one-fits (length k) 4357) Iff·rfl
+check-done k = done-after-lengths (secretAnswer k) (header-fits k) Iff·rfl
 
 pub keygen-done : (stream s e : List ℕ) (public secret : ℕ)
     → (keygenAnswer stream s e public secret ≡ Done)
@@ -57,7 +58,7 @@ encapsulate-done k t room = done-after-lengths _ (encapsulate-fits k t room) (th
 
 pub decapsulate-done : (k c d : List ℕ) (room : ℕ)
     → (decapsulateAnswer k c d room ≡ Done)
-    ↔ (((length k ≡ 4357) × (length c ≡ 4096) × (length d ≡ 768) × (room ≡ 768))
+    ↔ (((5 ≤ length k) × (length c ≡ 4096) × (length d ≡ 768) × (room ≡ 768))
     × ((secretAnswer k ≡ Done)
     × (encapsulationAnswer c ≡ Done)
     × (tripleAnswer d ≡ Done)
@@ -77,7 +78,7 @@ seal-done k noise entry room = done-after-lengths (publicAnswer k) (seal-fits k 
 
 pub open-done : (k e noise : List ℕ) (room : ℕ)
     → (openAnswer k e noise room ≡ Done)
-    ↔ (((length k ≡ 4357) × (length e ≡ 4133) × (length noise ≡ 1536) × (room ≡ 16))
+    ↔ (((5 ≤ length k) × (length e ≡ 4133) × (length noise ≡ 1536) × (room ≡ 16))
     × ((secretAnswer k ≡ Done)
     × (sealedEntryAnswer e ≡ Done)
     × (openedAnswer (outcome (elementsOf k) (noiseTriple noise) (firstOf e) (secondOf e)) (bodyPart e) (tagPart e) ≡ Done)))

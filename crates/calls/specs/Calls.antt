@@ -1,13 +1,12 @@
 -- What each public call answers and what its lent outputs hold afterwards, over the lent bytes (document 01, "Bytes" and "What the desk
--- says"; document 02, No. 2 and 3). Every definition holds for buffers of all lengths. Under any answer but Done an output is as it came.
+-- says"; document 02, No. 2, 3 and 5). Every definition holds for buffers of all lengths. Under any answer but Done an output is as it came.
 -- `room`, and `public` and `secret` where they are numbers, are the lengths of outputs.
 use mathlib.Core.Bool.{_&&_}
 use mathlib.Core.List.{List}
 use Prim.Native.Nat.{ℕ}
-use lib.Dec.{eqb}
+use lib.Dec.{eqb, leb}
 use lib.ListN.{length}
 use Rattle.lists.specs.Table.{zeros}
-use Rattle.ring.specs.Invertible.{inverseOf}
 use Rattle.scheme.specs.Scheme.{Triple, Outcome, found, failed, masked, decapsulation}
 use Rattle.sampling.specs.Noise.{noiseLength, ternaryNoise}
 use Rattle.sampling.specs.Stream.{streamLength, uniformElement}
@@ -16,18 +15,20 @@ use Rattle.answers.specs.declared.Refusal.the-variants as Refusal
 use Rattle.answers.specs.declared.Answer.{Answer}
 use Rattle.answers.specs.declared.Answer.the-variants.{Done, Refused}
 use Rattle.answers.specs.Answers.{unless, andThen, onDone}
-use Rattle.records.specs.Layout.{publicKeyLength, seedLength, seededKeyLength, secretKeyLength, sealedEntryLength, encapsulationLength, tripleLength, blockLength}
+use Rattle.records.specs.Layout.{headerLength, publicKeyLength, seedLength, seededKeyLength, secretKeyLength, sealedEntryLength, encapsulationLength, tripleLength, blockLength}
 use Rattle.records.specs.Records.{firstOf, secondOf, bodyPart, tagPart, sealedEntryAnswer, publicKeyBytes, secretKeyBytes, seededKeyBytes, sealedEntryBytes}
 use Rattle.records.specs.Records.{c1Of, c2Of, encapsulationAnswer, encapsulationBytes}
 use Rattle.triples.specs.Triple.{tripleOf, tripleAnswer, tripleBytes}
 use Rattle.seeds.specs.Seeds.{seedStream}
 use Rattle.public_keys.specs.PublicKeys.{publicLength?, publicA, publicB, publicAnswer}
-use Rattle.keys.specs.Keys.{secretAnswer, KeyElements, elementsOf, keygenB, generatedAnswer, tripleNoiseLength, noiseTriple}
+use Rattle.secret_keys.specs.SecretKeys.{KeyElements, elementsOf, secretAnswer}
+use Rattle.keys.specs.Keys.{keygenB, generatedAnswer, tripleNoiseLength, noiseTriple}
 
--- ---- check_secret_key
+-- ---- check_secret_key; the key is a secret record of either version, here and wherever one is lent
 
+-- 1 for a key without a header
 unfoldable pub checkAnswer : (key : List ℕ) → Answer
-checkAnswer k = unless (eqb (length k) secretKeyLength) Refusal.WrongLength (secretAnswer k)
+checkAnswer k = unless (leb headerLength (length k)) Refusal.WrongLength (secretAnswer k)
 
 -- ---- keygen, from a stream and the noise of s and of e
 
@@ -85,9 +86,9 @@ encapsulateOut k t out = onDone (encapsulateAnswer k t (length out)) (encapsulat
 
 -- ---- decapsulate the encapsulation c with the dummy triple d
 
--- by the steps of document 01, with the inverse of the key's b
+-- by the steps of document 01, with the inverse of b that the key has
 unfoldable pub outcome : (key : KeyElements) (dummy : Triple) (c1 c2 : List ℕ) → Outcome
-outcome key dummy c1 c2 = decapsulation (key .a) (key .b) (inverseOf (key .b)) (key .s) dummy c1 c2
+outcome key dummy c1 c2 = decapsulation (key .a) (key .b) (key .inverse) (key .s) dummy c1 c2
 
 -- 9
 abbrev pub outcomeAnswer : Outcome → Answer
@@ -101,7 +102,7 @@ outcomeBytes failed = zeros tripleLength
 
 unfoldable pub decapsulateAnswer : (key encapsulation dummy : List ℕ) (room : ℕ) → Answer
 decapsulateAnswer k c d room =
-    unless (eqb (length k) secretKeyLength && eqb (length c) encapsulationLength && eqb (length d) tripleLength && eqb room tripleLength)
+    unless (leb headerLength (length k) && eqb (length c) encapsulationLength && eqb (length d) tripleLength && eqb room tripleLength)
     Refusal.WrongLength
     (andThen (secretAnswer k)
     (andThen (encapsulationAnswer c)
@@ -146,7 +147,7 @@ openedEntry failed body = zeros (length body)
 
 unfoldable pub openAnswer : (key sealed noise : List ℕ) (room : ℕ) → Answer
 openAnswer key sealed noise room =
-    unless (eqb (length key) secretKeyLength && eqb (length sealed) sealedEntryLength && eqb (length noise) tripleNoiseLength && eqb room blockLength)
+    unless (leb headerLength (length key) && eqb (length sealed) sealedEntryLength && eqb (length noise) tripleNoiseLength && eqb room blockLength)
     Refusal.WrongLength
     (andThen (secretAnswer key)
     (andThen (sealedEntryAnswer sealed)

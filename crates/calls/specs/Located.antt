@@ -8,18 +8,15 @@ use Rattle.answers.specs.declared.Answer.{Answer}
 use Rattle.answers.specs.declared.Answer.the-variants.{Done}
 use Rattle.answers.specs.declared.Location.{Location}
 use Rattle.answers.specs.Answers.{number}
-use Rattle.answers.specs.Locations.{secretKey, sealedEntry, encapsulation, aPart, bPart, c1Part, c2Part, nowhere, location, Names, code, codeNumber, codeLocation}
-use Rattle.records.specs.Layout.{secretKeyMark, sealedEntryMark, secretKeyLength, sealedEntryLength, encapsulationLength, tripleLength, blockLength}
+use Rattle.answers.specs.Locations.{sealedEntry, encapsulation, c1Part, c2Part, nowhere, location, Names, code, codeNumber, codeLocation}
+use Rattle.records.specs.Layout.{sealedEntryMark, sealedEntryLength, encapsulationLength, tripleLength, blockLength}
 use Rattle.records.specs.Records.{firstOf, secondOf, c1Of, c2Of}
 use Rattle.records.specs.Named.{NamedInTwo}
 use Rattle.public_keys.specs.WellFormed.{HasHeader, PublicNamed}
+use Rattle.secret_keys.specs.WellFormed.{SecretNamed}
 use Rattle.keys.specs.Keys.{tripleNoiseLength}
 use Rattle.calls.specs.Calls.{checkAnswer, keygenAnswer, seededKeygenAnswer, encapsulateAnswer, decapsulateAnswer, sealAnswer, openAnswer}
 use Rattle.calls.specs.Promises.{Accepted}
-
--- l names the first word of a secret key that is q or more, behind length, mark and version
-abbrev pub SecretNamed : (k : List ℕ) (l : Location) → Type 0
-SecretNamed k l = HasHeader secretKeyLength secretKeyMark k × NamedInTwo secretKey aPart bPart (firstOf k) (secondOf k) l
 
 -- ---- which word is named; `room` is the length of the output
 

@@ -9,20 +9,21 @@ use lib.ListN.{length, getD}
 use Rattle.exactness.specs.Scheme as Any
 use Rattle.ring.specs.Ring.{n, Invertible}
 use Rattle.scheme.specs.Scheme.{Triple, setting}
-use Rattle.encoding.specs.Codes.{firstInvalidCode}
 use Rattle.sampling.specs.Noise.{noiseLength}
 use Rattle.sampling.specs.Stream.{streamLength, taken}
 use Rattle.triples.specs.Triple.{tripleBytes}
 use Rattle.derivation.specs.Derivation.{tagOf, entryOf}
 use Rattle.answers.specs.Answers.{number}
-use Rattle.records.specs.Layout.{publicKeyMark, secretKeyMark, publicKeyLength, seedLength, seededKeyLength, secretKeyLength, sealedEntryLength, encapsulationLength, tripleLength, blockLength}
-use Rattle.records.specs.Records.{firstOf, secondOf, codesPart, bodyPart, tagPart, seededB, c1Of, c2Of}
-use Rattle.records.specs.WellFormed.{WellFormedFront, WellFormedSeededKey, WellFormedKey, WellFormedEntry, WellFormedEncapsulation}
+use Rattle.records.specs.Layout.{publicKeyMark, publicKeyLength, seedLength, seededKeyLength, secretKeyLength, sealedEntryLength, encapsulationLength, tripleLength, blockLength}
+use Rattle.records.specs.Records.{firstOf, secondOf, compactBytes, bodyPart, tagPart, seededB, c1Of, c2Of}
+use Rattle.records.specs.WellFormed.{WellFormedFront, WellFormedSeededKey, WellFormedKey, WellFormedExpandedKey, WellFormedEntry, WellFormedEncapsulation}
 use Rattle.triples.specs.WellFormed.{WellFormedTriple}
 use Rattle.seeds.specs.Seeds.{seedStream}
 use Rattle.public_keys.specs.PublicKeys.{publicLength?, publicA, publicB, publicAnswer}
 use Rattle.public_keys.specs.WellFormed.{SeedFills, PublicHeader, PublicRecord}
-use Rattle.keys.specs.Keys.{secretAnswer, elementsOf, Matches, keygenB, tripleNoiseLength}
+use Rattle.secret_keys.specs.SecretKeys.{secretAnswer}
+use Rattle.secret_keys.specs.WellFormed.{InverseStored, Matches}
+use Rattle.keys.specs.Keys.{keygenB, tripleNoiseLength}
 use Rattle.calls.specs.Calls.{checkAnswer, keygenAnswer, keygenPublic, keygenSecret, seededKeygenAnswer, seededKeygenPublic, seededKeygenSecret}
 use Rattle.calls.specs.Calls.{encapsulateAnswer, encapsulatedWith, encapsulateOut, decapsulateAnswer, decapsulateOut}
 use Rattle.calls.specs.Calls.{sealAnswer, sealedWith, sealOut, openAnswer, openOut}
@@ -40,7 +41,7 @@ Encapsulates a b c1 c2 t = Any.Encapsulates setting a b c1 c2 t
 abbrev pub HasTriple : (a b c1 c2 : List ℕ) → Type 0
 HasTriple a b c1 c2 = (t : Triple) × Encapsulates a b c1 c2 t
 
--- the key check accepts a secret key's bytes
+-- the key check accepts a secret key's bytes, of either version
 abbrev pub Accepted : (key : List ℕ) → Type 0
 Accepted k = number (checkAnswer k) ≡ 0
 
@@ -74,8 +75,13 @@ Opened a b c1 c2 body tag before said after = OpenedTo a b c1 c2 body tag before
 -- ---- demand 3 of the calls, over bytes
 
 -- the key check: `said` is the number that it said of the key k
-abbrev pub CheckExact : (k : List ℕ) (said : ℕ) → Type 0
-CheckExact k said = WellFormedKey k → (said ≡ 0) ↔ (Invertible (secondOf k) × Matches (elementsOf k))
+pub record CheckExact (k : List ℕ) (said : ℕ) : Type 0 where
+  -- of version 1
+  pub version-1 : WellFormedKey k → (said ≡ 0) ↔ (Invertible (secondOf k) × Matches k)
+  -- of version 2 (document 02, No. 5): the same of its a, b and s, and the stored inverse is that of b
+  pub version-2 : WellFormedExpandedKey k → (said ≡ 0) ↔ ((Invertible (secondOf k) × Matches k) × InverseStored k)
+  -- .. so it says 0 exactly when it accepts the record of version 1 with the same a, b and s, and the stored inverse is that of b
+  pub as-version-1 : WellFormedExpandedKey k → (said ≡ 0) ↔ (Accepted (compactBytes k) × InverseStored k)
 
 -- bare opening of the encapsulation c with the key k and the dummy d; under every other dummy it says and writes the same
 abbrev pub DecapsulateExact : (k c d before : List ℕ) (said : ℕ) (after : List ℕ) → Type 0
@@ -102,9 +108,8 @@ pub record NotInvertibleExact : Type 0 where
       → (number (publicAnswer k) ≡ 6) ↔ (WellFormedFront publicKeyMark 1 k × ¬ (Invertible (secondOf k)))
   pub seeded-key : (k : List ℕ) → length k ≡ seededKeyLength
       → (number (publicAnswer k) ≡ 6) ↔ (WellFormedSeededKey k × SeedFills k × ¬ (Invertible (seededB k)))
-  -- of a secret key, whatever its length
-  pub secret-key : (k : List ℕ)
-      → (number (secretAnswer k) ≡ 6) ↔ (WellFormedFront secretKeyMark 1 k × (firstInvalidCode (codesPart k) ≡ n) × ¬ (Invertible (secondOf k)))
+  -- of a secret key, which is then of version 1
+  pub secret-key : (k : List ℕ) → (number (secretAnswer k) ≡ 6) ↔ (WellFormedKey k × ¬ (Invertible (secondOf k)))
   -- in each call; `room` is the length of the output
   pub keygen : (stream s e : List ℕ) (public secret : ℕ)
       → (number (keygenAnswer stream s e public secret) ≡ 6)

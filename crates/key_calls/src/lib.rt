@@ -2,6 +2,7 @@
 // output is as it came.
 use answers::Answer;
 use answers::Refusal;
+use encoding::HEADER_LENGTH;
 use ntt::Element;
 use ntt::FACTORS;
 use records::PUBLIC_KEY_LENGTH;
@@ -18,20 +19,19 @@ ghost use Rattle.calls.specs.Promises.{CheckExact};
 
 // ---- check_secret_key
 
-// The key check.
+// The key check, of a secret key of either version.
 pub fn check_secret_key(key: &[u8]) -> Answer
     ensures { λ a. ⌜ a ≡ checkAnswer (now (key .entry)) ⌝ }
     ensures { λ a. ⌜ CheckExact (now (key .entry)) (number a) ⌝ }
 {
-    if key.len() != SECRET_KEY_LENGTH {
+    if key.len() < HEADER_LENGTH {
         return Answer::Refused(Refusal::WrongLength);
     }
     let mut forward = [0u16; FACTORS];
     let mut backward = [0u16; FACTORS];
     ntt::forward_factors(&mut forward);
     ntt::backward_factors(&mut backward);
-    let read = keys::read_secret_key(key, &forward, &backward);
-    read.answer
+    secret_keys::check_secret_key(key, &forward, &backward)
 }
 
 // ---- keygen

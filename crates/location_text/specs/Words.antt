@@ -5,7 +5,8 @@ use Prim.Native.Nat.{ℕ}
 use lib.Dec.{eqb}
 use Rattle.text.specs.Text.{decimal}
 use Rattle.answers.specs.declared.Location.{Location}
-use Rattle.answers.specs.Locations.{publicKey, seededPublicKey, secretKey, sealedEntry, encapsulation, aPart, bPart, c1Part, c2Part}
+use Rattle.answers.specs.Locations.{publicKey, seededPublicKey, secretKey, sealedEntry, encapsulation}
+use Rattle.answers.specs.Locations.{aPart, bPart, storedInversePart, c1Part, c2Part}
 
 -- ---- records and parts by their codes; no name for a code that no answer has
 
@@ -38,20 +39,29 @@ recordName kind =
     (cond (eqb kind encapsulation) encapsulationName
     []))))
 
--- `a`, `b`, `c1`, `c2`
+-- `stored_inverse`
+abbrev pub storedInverseName : List ℕ
+storedInverseName = 115 ∷ 116 ∷ 111 ∷ 114 ∷ 101 ∷ 100 ∷ 95 ∷ 105 ∷ 110 ∷ 118 ∷ 101 ∷ 114 ∷ 115 ∷ 101 ∷ []
+
+-- `a`, `b`, `stored_inverse`, `c1`, `c2`
 abbrev pub partName : (part : ℕ) → List ℕ
 partName part =
     cond (eqb part aPart) (97 ∷ [])
     (cond (eqb part bPart) (98 ∷ [])
+    (cond (eqb part storedInversePart) storedInverseName
     (cond (eqb part c1Part) (99 ∷ 49 ∷ [])
     (cond (eqb part c2Part) (99 ∷ 50 ∷ [])
-    [])))
+    []))))
 
 -- ---- the location
 
 -- record, part and index with a space between
 abbrev pub locationWords : Location → List ℕ
 locationWords l = recordName (l .kind) ++ (32 ∷ []) ++ partName (l .part) ++ (32 ∷ []) ++ decimal (l .index)
+
+-- how long it is at most, with an index of 64 bits
+abbrev pub textLength : ℕ
+textLength = 53
 
 -- nothing where no word is named
 unfoldable pub locationText : Location → List ℕ

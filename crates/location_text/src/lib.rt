@@ -6,12 +6,12 @@ ghost use Prim.Native.Nat.{_+_, _≤_, min};
 ghost use lib.ListN.{length, take, drop};
 ghost use Rattle.lists.specs.Table.{zeros};
 ghost use Rattle.text.specs.Text.{written};
-ghost use Rattle.location_text.specs.Words.{recordName, partName, locationText};
+ghost use Rattle.location_text.specs.Words.{recordName, partName, textLength, locationText};
 
-// The longest text: `seeded_public_key c1 ` and the 20 digits of an index of 64 bits.
-const TEXT_LENGTH: usize = 41;
+// The longest text: `seeded_public_key stored_inverse ` and the 20 digits of an index of 64 bits.
+const TEXT_LENGTH: usize = 53;
 
-// A text of at most 41 bytes: it stands at the front of `bytes`, with zeros behind it.
+// A text of at most TEXT_LENGTH bytes: it stands at the front of `bytes`, with zeros behind it.
 pub struct Text {
     pub bytes: [u8; TEXT_LENGTH],
     pub length: usize,
@@ -42,6 +42,7 @@ fn put_part(out: &mut [u8], at: usize, part: u32) -> usize
     match part {
         1 => text::put(out, at, b"a"),
         2 => text::put(out, at, b"b"),
+        3 => text::put(out, at, b"stored_inverse"),
         4 => text::put(out, at, b"c1"),
         5 => text::put(out, at, b"c2"),
         _ => text::put(out, at, b""),
@@ -50,8 +51,8 @@ fn put_part(out: &mut [u8], at: usize, part: u32) -> usize
 
 // The words of any location.
 pub fn words(l: Location) -> Text
-    ensures { λ r. ⌜ r .bytes ≡ written (locationText l) (zeros 41) ⌝ }
-    ensures { λ r. ⌜ (r .length ≡ length (locationText l)) × (r .length ≤ 41) ⌝ }
+    ensures { λ r. ⌜ r .bytes ≡ written (locationText l) (zeros textLength) ⌝ }
+    ensures { λ r. ⌜ (r .length ≡ length (locationText l)) × (r .length ≤ textLength) ⌝ }
 {
     let mut bytes = [0u8; TEXT_LENGTH];
     if l.kind == 0 {

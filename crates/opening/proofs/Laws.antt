@@ -1,14 +1,13 @@
 -- A key that was read, equal parts of an answer, and what is written.
 use mathlib.Core.Path.{_≡_, refl, ap, ap₂, _∙_}
+use mathlib.Core.Bool.{Bool, false, true}
 use mathlib.Core.List.{List}
 use Prim.Native.Nat.{ℕ}
 use lib.ListN.{length}
+use Rattle.lists.proofs.Equal.{ap₃, ap₄}
 use Rattle.ntt.specs.Spectrum.{spectrumOf, coefficientsOf}
 use Rattle.ring.specs.Ring.{n}
-use Rattle.ring.specs.Invertible.{inverseOf}
-use Rattle.ring.specs.Reciprocals.{reciprocalsOf}
 use Rattle.ring.proofs.RingLaws.{length-inverse}
-use Rattle.ring.proofs.Transforms.{inverse-spectrum}
 use Rattle.scheme.specs.Scheme.{Triple, Outcome, found, failed, decapsulation}
 use Rattle.scheme.specs.declared.Triple as Declared
 use Rattle.scheme.proofs.Steps.{decapsulation-through}
@@ -24,42 +23,45 @@ use Rattle.answers.specs.Answers.{andThen, onDone}
 use Rattle.records.specs.Records.{recordAnswer, sealedEntryAnswer}
 use Rattle.sealed_records.specs.Front.{sealedFrontAnswer}
 use Rattle.calls.specs.Calls.{outcome, outcomeAnswer, outcomeBytes, openedAnswer, openedEntry}
-use Rattle.keys.specs.Keys.{KeyElements, elementsOf}
-use Rattle.keys.specs.declared.SecretKey.{SecretKey}
+use Rattle.secret_keys.specs.SecretKeys.{expanded?, layoutAnswer, KeyElements, partsOf, noElements, elementsOf}
+use Rattle.secret_keys.specs.declared.SecretKey.{SecretKey}
 use Rattle.recovery.specs.Outcomes.{asTriple, answered, outcomeBy, decapsulatedBy, openedBy, tripleKey0}
 
 -- ---- decapsulation with a key that was read
 
--- a, b and s have 1,024 coefficients, as what is read off bytes has
+-- every element has 1,024 coefficients, as what is read off bytes has
 pub record Sized (key : KeyElements) : Type 0 where
   pub a-size : length (key .a) ≡ n
   pub b-size : length (key .b) ≡ n
   pub s-size : length (key .s) ≡ n
+  pub inverse-size : length (key .inverse) ≡ n
+
+parts-sized : (expanded : Bool) (k : List ℕ) → Sized (partsOf expanded k)
+parts-sized false k = record { a-size = length-elementOf _; b-size = length-elementOf _; s-size = length-ternaryOf _; inverse-size = length-inverse _ }
+parts-sized true k = record { a-size = length-elementOf _; b-size = length-elementOf _; s-size = length-ternaryOf _; inverse-size = length-elementOf _ }
+
+none-sized : Sized noElements
+none-sized = record { a-size = refl; b-size = refl; s-size = refl; inverse-size = refl }
 
 pub read-sized : (k : List ℕ) → Sized (elementsOf k)
-read-sized k = record { a-size = length-elementOf _; b-size = length-elementOf _; s-size = length-ternaryOf _ }
-
--- by the spectra of a, b, s and the reciprocals of that of b
-pub outcome-by : (k : SecretKey) (inverse : List ℕ) (t : Declared.Triple) (x1 x2 : List ℕ) {key : KeyElements} {dummy : Triple} {c1 c2 : List ℕ} → Sized key
-    → k .a ≡ spectrumOf (key .a) → k .b ≡ spectrumOf (key .b) → k .s ≡ spectrumOf (key .s) → inverse ≡ reciprocalsOf (k .b)
-    → asTriple t ≡ dummy → x1 ≡ c1 → x2 ≡ c2 → outcomeBy k inverse t x1 x2 ≡ outcome key dummy c1 c2
-unfolding outcome
-outcome-by k inverse t x1 x2 {key} {dummy} {c1} {c2} size ea eb es ei et e1 e2 =
-    ap₂ (λ (x y : List ℕ). decapsulation (coefficientsOf x) (coefficientsOf y) (coefficientsOf inverse) (coefficientsOf (k .s)) (asTriple t) x1 x2) ea eb
-    ∙ ap₂ (λ (x y : List ℕ). decapsulation (coefficientsOf (spectrumOf a)) (coefficientsOf (spectrumOf b)) (coefficientsOf x) (coefficientsOf y) (asTriple t) x1 x2)
-    (ei ∙ ap reciprocalsOf eb ∙ inverse-spectrum b (size .b-size)) es
-    ∙ decapsulation-through a b (inverseOf b) s (size .a-size) (size .b-size) (length-inverse b) (size .s-size) (asTriple t) x1 x2
-    ∙ ap (λ (x : Triple). decapsulation a b (inverseOf b) s x x1 x2) et
-    ∙ ap₂ (decapsulation a b (inverseOf b) s dummy) e1 e2
+unfolding elementsOf
+read-sized k = read (layoutAnswer k)
   where
-    a : List ℕ
-    a = key .a
+    read : (layout : Answer) → Sized (onDone layout (partsOf (expanded? k) k) noElements)
+    read Done = parts-sized (expanded? k) k
+    read (Refused r) = none-sized
 
-    b : List ℕ
-    b = key .b
+-- the spectra of a key's elements
+abbrev pub Spectra : (key : KeyElements) (a b s inverse : List ℕ) → Type 0
+Spectra key a b s inverse = (a ≡ spectrumOf (key .a)) × (b ≡ spectrumOf (key .b)) × (s ≡ spectrumOf (key .s)) × (inverse ≡ spectrumOf (key .inverse))
 
-    s : List ℕ
-    s = key .s
+pub outcome-by : (k : SecretKey) (t : Declared.Triple) (x1 x2 : List ℕ) {key : KeyElements} {dummy : Triple} {c1 c2 : List ℕ} → Sized key
+    → Spectra key (k .a) (k .b) (k .s) (k .inverse) → asTriple t ≡ dummy → x1 ≡ c1 → x2 ≡ c2 → outcomeBy k t x1 x2 ≡ outcome key dummy c1 c2
+unfolding outcome
+outcome-by k t x1 x2 {key} {dummy} size (ea, eb, es, ei) et e1 e2 =
+    ap₄ (λ (a b i s : List ℕ). decapsulation (coefficientsOf a) (coefficientsOf b) (coefficientsOf i) (coefficientsOf s) (asTriple t) x1 x2) ea eb ei es
+    ∙ decapsulation-through (key .a) (key .b) (key .inverse) (key .s) (size .a-size) (size .b-size) (size .inverse-size) (size .s-size) (asTriple t) x1 x2
+    ∙ ap₃ (decapsulation (key .a) (key .b) (key .inverse) (key .s)) et e1 e2
 
 -- ---- equal parts
 

@@ -1,4 +1,4 @@
--- What functions of src/lib.rt answer, over the bytes of records with the right lengths.
+-- What functions of src/lib.rt answer, over the bytes of a key of any length and of other records with the right lengths.
 use mathlib.Core.List.{List}
 use Prim.Native.Nat.{ℕ}
 use Rattle.scheme.specs.Scheme.{Outcome}
@@ -6,7 +6,8 @@ use Rattle.answers.specs.declared.Answer.{Answer}
 use Rattle.records.specs.Records.{firstOf, secondOf, c1Of, c2Of, encapsulationAnswer}
 use Rattle.sealed_records.specs.Front.{sealedFrontAnswer}
 use Rattle.triples.specs.Triple.{tripleOf, tripleAnswer}
-use Rattle.keys.specs.Keys.{secretAnswer, elementsOf, noiseTriple}
+use Rattle.secret_keys.specs.SecretKeys.{secretAnswer, elementsOf}
+use Rattle.keys.specs.Keys.{noiseTriple}
 use Rattle.calls.specs.Calls.{outcome}
 use Rattle.recovery.specs.Outcomes.{decapsulatedBy, openedBy}
 

@@ -1,12 +1,12 @@
 // The calls of a desk that open, which is lent a secret key. Buffers may have any length; under any answer but Done every output is as it came.
 use answers::Answer;
 use answers::Refusal;
+use encoding::HEADER_LENGTH;
 use keys::TRIPLE_NOISE_LENGTH;
 use ntt::FACTORS;
 use octets::BLOCK_LENGTH;
 use records::ENCAPSULATION_LENGTH;
 use records::SEALED_ENTRY_LENGTH;
-use records::SECRET_KEY_LENGTH;
 use records::TAG;
 use records::THIRD;
 use records::TRIPLE_LENGTH;
@@ -20,7 +20,7 @@ ghost use Prim.Native.Nat.{_%_, _≤_};
 ghost use lib.ListN.{length};
 ghost use Rattle.derivation.specs.Derivation.{underKeystream};
 ghost use Rattle.answers.specs.Answers.{number, onDone};
-ghost use Rattle.records.specs.Layout.{thirdPlace, secretKeyLength, encapsulationLength, tripleLength, blockLength};
+ghost use Rattle.records.specs.Layout.{thirdPlace, encapsulationLength, tripleLength, blockLength};
 ghost use Rattle.triples.specs.Triple.{tripleBytes};
 ghost use Rattle.keys.specs.Keys.{tripleNoiseLength};
 ghost use Rattle.calls.specs.Calls.{decapsulateAnswer, decapsulateOut, openedEntry, openAnswer, openOut};
@@ -30,9 +30,9 @@ ghost use Rattle.opening.specs.Parts.{decapsulatedOutcome, decapsulatedA
 
 // ---- decapsulate
 
-// Of records with the right lengths.
+// Of an encapsulation and a dummy with the right lengths, with a key of any.
 fn decapsulate_records(key: &[u8], encapsulation: &[u8], dummy: &[u8]) -> Decapsulated
-    requires { ⌜ (length (now key) ≡ secretKeyLength) × (length (now encapsulation) ≡ encapsulationLength) × (length (now dummy) ≡ tripleLength) ⌝ }
+    requires { ⌜ (length (now encapsulation) ≡ encapsulationLength) × (length (now dummy) ≡ tripleLength) ⌝ }
     ensures { λ d. ⌜ d .answer ≡ decapsulatedAnswer (now (key .entry)) (now (encapsulation .entry)) (now (dummy .entry)) ⌝ }
     ensures { λ d. ⌜ asTriple (d .triple) ≡ answered (decapsulatedOutcome (now (key .entry)) (now (encapsulation .entry)) (now (dummy .entry))) ⌝ }
 {
@@ -40,13 +40,11 @@ fn decapsulate_records(key: &[u8], encapsulation: &[u8], dummy: &[u8]) -> Decaps
     let mut backward = [0u16; FACTORS];
     ntt::forward_factors(&mut forward);
     ntt::backward_factors(&mut backward);
-    let k = keys::read_secret_key(key, &forward, &backward);
-    let b = k.b;
-    let inverse = ring::reciprocals(b);
+    let k = secret_keys::read_secret_key(key, &forward, &backward);
     let c = sealed_records::read_encapsulation(encapsulation);
     let codes = triples::check_triple(dummy);
     let t = triples::read_triple(dummy);
-    recovery::find_triple(k, inverse, c, codes, t, &forward, &backward)
+    recovery::find_triple(k, c, codes, t, &forward, &backward)
 }
 
 fn write_triple(answer: Answer, t: Triple, out: &mut [u8])
@@ -67,7 +65,7 @@ pub fn decapsulate(key: &[u8], encapsulation: &[u8], dummy: &[u8], out: &mut [u8
     ensures { λ _. ⌜ now (out .exit) ≡ decapsulateOut (now (key .entry)) (now (encapsulation .entry)) (now (dummy .entry)) (now (out .entry)) ⌝ }
     ensures { λ a. ⌜ DecapsulateExact (now (key .entry)) (now (encapsulation .entry)) (now (dummy .entry)) (now (out .entry)) (number a) (now (out .exit)) ⌝ }
 {
-    let fits = (key.len() == SECRET_KEY_LENGTH)
+    let fits = (HEADER_LENGTH <= key.len())
         & (encapsulation.len() == ENCAPSULATION_LENGTH)
         & (dummy.len() == TRIPLE_LENGTH)
         & (out.len() == TRIPLE_LENGTH);
@@ -84,7 +82,7 @@ pub fn decapsulate(key: &[u8], encapsulation: &[u8], dummy: &[u8], out: &mut [u8
 // ---- what openings of sealed entries and of batches share. `version` is the record's, and `between` what is answered between its header and
 // its words; the tag is that of the blocks in `front`, of which a single entry has none, and of the body
 
-// With a key of the right length and a dummy from noise.
+// With a key of any length and a dummy from noise.
 fn recover_sealed(
     key: &[u8],
     sealed: &[u8],
@@ -95,7 +93,7 @@ fn recover_sealed(
     body: &[u8],
     tag: &[u8],
 ) -> Recovered
-    requires { ⌜ (length (now key) ≡ secretKeyLength) × (thirdPlace ≤ length (now sealed)) × (length (now noise) ≡ tripleNoiseLength) × (length (now front) % 16 ≡ 0) × (length (now tag) ≡ blockLength) ⌝ }
+    requires { ⌜ (thirdPlace ≤ length (now sealed)) × (length (now noise) ≡ tripleNoiseLength) × (length (now front) % 16 ≡ 0) × (length (now tag) ≡ blockLength) ⌝ }
     ensures { λ r. ⌜ r .answer ≡ sealedAnswer (now (key .entry)) (now (sealed .entry)) version between (now (noise .entry)) (now (front .entry) ++ now (body .entry)) (now (tag .entry)) ⌝ }
     ensures { λ r. ⌜ r .k0 ≡ tripleKey0 (answered (openedOutcome (now (key .entry)) (now (sealed .entry)) (now (noise .entry)))) ⌝ }
 {
@@ -103,13 +101,11 @@ fn recover_sealed(
     let mut backward = [0u16; FACTORS];
     ntt::forward_factors(&mut forward);
     ntt::backward_factors(&mut backward);
-    let k = keys::read_secret_key(key, &forward, &backward);
-    let b = k.b;
-    let inverse = ring::reciprocals(b);
+    let k = secret_keys::read_secret_key(key, &forward, &backward);
     let c = sealed_records::read_sealed(sealed, version, between);
     let dummy = keys::noise_triple(noise);
     let t = octets::read_block(tag);
-    recovery::recover(k, inverse, c, dummy, front, body, t, &forward, &backward)
+    recovery::recover(k, c, dummy, front, body, t, &forward, &backward)
 }
 
 // Shows the entry of a body, in a buffer of its length.
@@ -134,7 +130,7 @@ pub fn open_sealed(
     tag: &[u8],
     out: &mut [u8],
 ) -> Answer
-    requires { ⌜ (length (now key) ≡ secretKeyLength) × (thirdPlace ≤ length (now sealed)) × (length (now noise) ≡ tripleNoiseLength) × (length (now front) % 16 ≡ 0) × (length (now tag) ≡ blockLength) × (length (now body) ≡ length (now out)) ⌝ }
+    requires { ⌜ (thirdPlace ≤ length (now sealed)) × (length (now noise) ≡ tripleNoiseLength) × (length (now front) % 16 ≡ 0) × (length (now tag) ≡ blockLength) × (length (now body) ≡ length (now out)) ⌝ }
     ensures { λ a. ⌜ a ≡ sealedAnswer (now (key .entry)) (now (sealed .entry)) version between (now (noise .entry)) (now (front .entry) ++ now (body .entry)) (now (tag .entry)) ⌝ }
     ensures { λ a. ⌜ now (out .exit) ≡ onDone a (openedEntry (openedOutcome (now (key .entry)) (now (sealed .entry)) (now (noise .entry))) (now (body .entry))) (now (out .entry)) ⌝ }
 {
@@ -154,7 +150,7 @@ pub fn open(key: &[u8], sealed: &[u8], noise: &[u8], out: &mut [u8]) -> Answer
     ensures { λ _. ⌜ now (out .exit) ≡ openOut (now (key .entry)) (now (sealed .entry)) (now (noise .entry)) (now (out .entry)) ⌝ }
     ensures { λ a. ⌜ OpenExact (now (key .entry)) (now (sealed .entry)) (now (noise .entry)) (now (out .entry)) (number a) (now (out .exit)) ⌝ }
 {
-    let fits = (key.len() == SECRET_KEY_LENGTH)
+    let fits = (HEADER_LENGTH <= key.len())
         & (sealed.len() == SEALED_ENTRY_LENGTH)
         & (noise.len() == TRIPLE_NOISE_LENGTH)
         & (out.len() == BLOCK_LENGTH);

@@ -1,6 +1,6 @@
 // What a console and a desk link: each public call for C. A slice is a pointer and a length, buffers may have any length, and the answer is
 // a code that holds number and location, 0 where the call is done; under any other every output is as it came. The definitions that the
-// contracts cite stand in crates calls, batch_calls and answers.
+// contracts cite stand in crates calls, batch_calls, conversion_calls and answers.
 ghost use mathlib.Core.Path.{_≡_};
 ghost use lib.ListN.{length};
 ghost use Rattle.shake.specs.Shake.{shake128, shake256};
@@ -11,6 +11,8 @@ ghost use Rattle.calls.specs.Calls.{decapsulateAnswer, decapsulateOut, sealAnsw
 ghost use Rattle.calls.specs.Promises.{CheckExact, DecapsulateExact, OpenExact};
 ghost use Rattle.batch_calls.specs.Calls.{sealBatchAnswer, sealBatchOut, openBatchAnswer, openBatchOut, openBatchCount};
 ghost use Rattle.batch_calls.specs.Promises.{OpenBatchExact};
+ghost use Rattle.conversion_calls.specs.Calls.{expandAnswer, expandOut, compactAnswer, compactOut};
+ghost use Rattle.conversion_calls.specs.Promises.{ExpandExact, CompactExact};
 
 #[no_mangle]
 pub extern "C" fn polka_keygen(
@@ -50,6 +52,26 @@ pub extern "C" fn polka_check_secret_key(key: &[u8]) -> u32
     ensures { λ n. ⌜ CheckExact (now (key .entry)) n ⌝ }
 {
     let answer = key_calls::check_secret_key(key);
+    answers::code(answer)
+}
+
+#[no_mangle]
+pub extern "C" fn polka_expand_secret_key(key: &[u8], out: &mut [u8]) -> u32
+    ensures { λ n. ⌜ n ≡ code (expandAnswer (now (key .entry)) (length (now (out .entry)))) ⌝ }
+    ensures { λ _. ⌜ now (out .exit) ≡ expandOut (now (key .entry)) (now (out .entry)) ⌝ }
+    ensures { λ n. ⌜ ExpandExact (now (key .entry)) (now (out .entry)) n (now (out .exit)) ⌝ }
+{
+    let answer = key_conversion::expand_secret_key(key, out);
+    answers::code(answer)
+}
+
+#[no_mangle]
+pub extern "C" fn polka_compact_secret_key(key: &[u8], out: &mut [u8]) -> u32
+    ensures { λ n. ⌜ n ≡ code (compactAnswer (now (key .entry)) (length (now (out .entry)))) ⌝ }
+    ensures { λ _. ⌜ now (out .exit) ≡ compactOut (now (key .entry)) (now (out .entry)) ⌝ }
+    ensures { λ n. ⌜ CompactExact (now (key .entry)) (now (out .entry)) n (now (out .exit)) ⌝ }
+{
+    let answer = key_conversion::compact_secret_key(key, out);
     answers::code(answer)
 }
 

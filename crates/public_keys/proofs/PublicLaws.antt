@@ -1,6 +1,6 @@
 -- The checks of a public key of either kind: when they say Done, when 6, when 8, and which word 4 names.
 use mathlib.Core.Path.{_≡_, refl, sym, ap, _∙_}
-use mathlib.Core.Bool.{Bool, true, false, decide, decide-iff, not-eq-not, false≢true, _||_}
+use mathlib.Core.Bool.{Bool, true, false, decide, false≢true}
 use mathlib.Core.Logic.{_↔_, _⊎_, inl, inr, Iff·rfl, Iff·trans, Iff·and}
 use mathlib.Core.List.{List}
 use Prim.Native.Nat.{ℕ, _<_}
@@ -23,24 +23,18 @@ use Rattle.records.specs.Records.{secondOf, seedOf, seededB}
 use Rattle.records.specs.WellFormed.{WellFormedFront, WellFormedSeededKey}
 use Rattle.public_keys.specs.PublicKeys.{streamAnswer, inverseAnswer, publicLength?, seeded?, publicB, publicRecordAnswer, publicStreamAnswer, publicAnswer}
 use Rattle.public_keys.specs.WellFormed.{SeedFills, PublicHeader, PublicRecord, PublicNamed}
-use Rattle.answers.proofs.AnswerLaws.{Never, done-never, unless-done, unless-never, unless-refuses, then-done, then-never, then-says, then-refuses, names-first}
-use Rattle.records.proofs.RecordLaws.{equal-done, public-front-done, seeded-done, OneOrAbove, none-of, above-lower, public-front-never, seeded-never}
+use Rattle.answers.proofs.AnswerLaws.{Never, done-never, unless-never, unless-refuses, decided-done, decided-refuses, then-done, then-never, then-says, then-refuses, names-first}
+use Rattle.records.proofs.RecordLaws.{equal-done, one-of-two, public-front-done, seeded-done, OneOrAbove, none-of, above-lower, public-front-never, seeded-never}
 use Rattle.records.proofs.NamedWords.{public-front-named, seeded-named}
 use Rattle.public_keys.proofs.EitherKind.{seeded-a, seeded-b, seeded-record, seeded-stream, long-a, long-b, long-record, long-stream}
 
 -- ---- 6
 
 pub inverse-done : (b : List ℕ) → (inverseAnswer b ≡ Done) ↔ Invertible b
-inverse-done b =
-    Iff·trans (unless-done (decide (invertible? b)) Refusal.NotInvertible Done)
-    (λ (found, e). decide-iff (invertible? b) .0 found, λ unit. (decide-iff (invertible? b) .1 unit, refl))
-
-pub none-decided : (b : List ℕ) → (decide (invertible? b) ≡ false) ↔ ¬ (Invertible b)
-none-decided b =
-    (λ e unit. false≢true (sym e ∙ decide-iff (invertible? b) .1 unit), λ none. not-eq-not .0 (λ e. none (decide-iff (invertible? b) .0 e)))
+inverse-done b = decided-done (invertible? b) Refusal.NotInvertible
 
 pub inverse-refused : (b : List ℕ) → (number (inverseAnswer b) ≡ 6) ↔ ¬ (Invertible b)
-inverse-refused b = Iff·trans (unless-refuses (decide (invertible? b)) Refusal.NotInvertible) (none-decided b)
+inverse-refused b = decided-refuses (invertible? b) Refusal.NotInvertible
 
 -- it says no other number
 pub inverse-never : {number : ℕ} → 0 < number → ¬ (6 ≡ number) → (b : List ℕ) → Never number (inverseAnswer b)
@@ -62,15 +56,7 @@ stream-never some other stream = unless-never (eqb (length (taken stream)) n) Re
 -- ---- lengths
 
 pub public-length : (size : ℕ) → (publicLength? size ≡ true) ↔ ((size ≡ publicKeyLength) ⊎ (size ≡ seededKeyLength))
-public-length size = (either (eqb size publicKeyLength) refl, one-of)
-  where
-    either : (b : Bool) → eqb size publicKeyLength ≡ b → b || eqb size seededKeyLength ≡ true → (size ≡ publicKeyLength) ⊎ (size ≡ seededKeyLength)
-    either true e h = inl (eqb-true size publicKeyLength e)
-    either false e h = inr (eqb-true size seededKeyLength h)
-
-    one-of : (size ≡ publicKeyLength) ⊎ (size ≡ seededKeyLength) → publicLength? size ≡ true
-    one-of (inl e) = rw e
-    one-of (inr e) = rw e
+public-length size = one-of-two size publicKeyLength seededKeyLength
 
 pub long-length : (k : List ℕ) → publicLength? (length k) ≡ true → ¬ (length k ≡ seededKeyLength) → length k ≡ publicKeyLength
 long-length k size other = one (public-length (length k) .0 size)

@@ -15,7 +15,7 @@ use Rattle.encoding.proofs.Words.{length-elementOf, from-within, from-found, fr
 use Rattle.answers.specs.declared.KeyPart.{KeyPart}
 use Rattle.answers.specs.declared.KeyPart.the-variants.{A, B}
 use Rattle.answers.specs.declared.KeyRecord.{KeyRecord}
-use Rattle.answers.specs.declared.KeyRecord.the-variants.{PublicKey, SeededPublicKey, SecretKey}
+use Rattle.answers.specs.declared.KeyRecord.the-variants.{PublicKey, SeededPublicKey}
 use Rattle.answers.specs.declared.EncapsulationPart.{EncapsulationPart}
 use Rattle.answers.specs.declared.EncapsulationPart.the-variants.{C1, C2}
 use Rattle.answers.specs.declared.EncapsulationRecord.{EncapsulationRecord}
@@ -23,15 +23,15 @@ use Rattle.answers.specs.declared.EncapsulationRecord.the-variants.{SealedEntry
 use Rattle.answers.specs.declared.Refusal.{Refusal}
 use Rattle.answers.specs.declared.Answer.the-variants.{Done}
 use Rattle.answers.specs.declared.Location.{Location}
-use Rattle.answers.specs.Answers.{refusalNumber, unless}
-use Rattle.answers.specs.Locations.{at, publicKey, seededPublicKey, secretKey, sealedEntry, encapsulation, aPart, bPart, c1Part, c2Part}
+use Rattle.answers.specs.Answers.{refusalNumber, unless, andThen}
+use Rattle.answers.specs.Locations.{at, publicKey, seededPublicKey, secretKey, sealedEntry, encapsulation, aPart, bPart, storedInversePart, c1Part, c2Part}
 use Rattle.answers.specs.Locations.{inKeyPart, inKey, inEncapsulationPart, inEncapsulation, refusalLocation, Names}
 use Rattle.answers.proofs.AnswerLaws.{then-names, names-either}
-use Rattle.records.specs.Layout.{publicKeyMark, seededKeyMark, secretKeyMark, sealedEntryMark}
-use Rattle.records.specs.Records.{aWord, bWord, c1Word, c2Word, wordsAnswer, elementsAnswer, firstOf, secondOf, recordAnswer}
-use Rattle.records.specs.Records.{publicFrontAnswer, secretFrontAnswer, sealedEntryAnswer, seededB, seededRecordAnswer, c1Of, c2Of, encapsulationAnswer}
-use Rattle.records.specs.Named.{FirstUnreduced, Named, NamedInTwo}
-use Rattle.records.proofs.RecordLaws.{header-done, header-never, words-done}
+use Rattle.records.specs.Layout.{publicKeyMark, seededKeyMark, sealedEntryMark}
+use Rattle.records.specs.Records.{aWord, bWord, inverseWord, c1Word, c2Word, wordsAnswer, elementsAnswer, firstOf, secondOf, recordAnswer}
+use Rattle.records.specs.Records.{publicFrontAnswer, sealedEntryAnswer, seededB, seededRecordAnswer, c1Of, c2Of, encapsulationAnswer}
+use Rattle.records.specs.Named.{FirstUnreduced, Named, NamedInTwo, NamedInThree}
+use Rattle.records.proofs.RecordLaws.{header-done, header-never, words-done, elements-done}
 
 -- the refusal of word i has number k and names word i of part p of a record of kind r
 pub record WordOf (k r p : ℕ) (word : ℕ → Refusal) : Type 0 where
@@ -43,6 +43,9 @@ a-word key kind = record { numbered = λ i. refl; located = λ i. kind (A i) }
 
 pub b-word : (key : KeyPart → KeyRecord) {r : ℕ} → ((p : KeyPart) → inKey (key p) ≡ inKeyPart r p) → WordOf 4 r bPart (bWord key)
 b-word key kind = record { numbered = λ i. refl; located = λ i. kind (B i) }
+
+pub inverse-word : WordOf 4 secretKey storedInversePart inverseWord
+inverse-word = record { numbered = λ i. refl; located = λ i. refl }
 
 pub c1-word : (holder : EncapsulationPart → EncapsulationRecord) {r : ℕ} → ((p : EncapsulationPart) → inEncapsulation (holder p) ≡ inEncapsulationPart r p)
     → WordOf 11 r c1Part (c1Word holder)
@@ -83,16 +86,26 @@ module _ {k r p : ℕ} {word : ℕ → Refusal} (some : 0 < k) (of : WordOf k r 
 
 -- ---- two elements
 
+pub either-iff : {A B C D : Type 0} → A ↔ C → B ↔ D → (A ⊎ B) ↔ (C ⊎ D)
+either-iff f g = (⊎-map (f .0) (g .0), ⊎-map (f .1) (g .1))
+
 pub elements-named : {k r p p′ : ℕ} {one other : ℕ → Refusal} → 0 < k → WordOf k r p one → WordOf k r p′ other
     → (first second : List ℕ) (l : Location) → length first ≡ n → length second ≡ n
     → Names k l (elementsAnswer one other first second) ↔ NamedInTwo r p p′ first second l
 unfolding elementsAnswer
 elements-named {one = one} some of-one of-other first second l h1 h2 =
     Iff·trans (names-either _ _ some)
-    (sum-iff (words-named some of-one first l h1) (Iff·and (words-done one first h1) (words-named some of-other second l h2)))
-  where
-    sum-iff : {A B C D : Type 0} → A ↔ C → B ↔ D → (A ⊎ B) ↔ (C ⊎ D)
-    sum-iff f g = (⊎-map (f .0) (g .0), ⊎-map (f .1) (g .1))
+    (either-iff (words-named some of-one first l h1) (Iff·and (words-done one first h1) (words-named some of-other second l h2)))
+
+-- and a third
+pub three-named : {k r p p′ p″ : ℕ} {one other last : ℕ → Refusal} → 0 < k → WordOf k r p one → WordOf k r p′ other → WordOf k r p″ last
+    → (first second third : List ℕ) (l : Location) → length first ≡ n → length second ≡ n → length third ≡ n
+    → Names k l (andThen (elementsAnswer one other first second) (wordsAnswer last third)) ↔ NamedInThree r p p′ p″ first second third l
+three-named {one = one} {other = other} some of-one of-other of-last first second third l h1 h2 h3 =
+    Iff·trans (names-either _ _ some)
+    (either-iff (elements-named some of-one of-other first second l h1 h2)
+    (Iff·trans (Iff·and (elements-done one other first second h1 h2) (words-named some of-last third l h3))
+    (λ ((e1, e2), named). (e1, e2, named), λ (e1, e2, named). ((e1, e2), named))))
 
 -- ---- records
 
@@ -125,10 +138,6 @@ Behind mark bytes named = (hasMark mark bytes ≡ true) × (versionOf bytes ≡ 
 pub public-front-named : (bytes : List ℕ) (l : Location)
     → Names 4 l (publicFrontAnswer bytes) ↔ Behind publicKeyMark bytes (NamedInTwo publicKey aPart bPart (firstOf bytes) (secondOf bytes) l)
 public-front-named bytes l = record-named (omega arith) (a-word PublicKey (λ p. refl)) (b-word PublicKey (λ p. refl)) publicKeyMark 1 bytes l
-
-pub secret-front-named : (bytes : List ℕ) (l : Location)
-    → Names 4 l (secretFrontAnswer bytes) ↔ Behind secretKeyMark bytes (NamedInTwo secretKey aPart bPart (firstOf bytes) (secondOf bytes) l)
-secret-front-named bytes l = record-named (omega arith) (a-word SecretKey (λ p. refl)) (b-word SecretKey (λ p. refl)) secretKeyMark 1 bytes l
 
 pub sealed-entry-named : (bytes : List ℕ) (l : Location)
     → Names 11 l (sealedEntryAnswer bytes) ↔ Behind sealedEntryMark bytes (NamedInTwo sealedEntry c1Part c2Part (firstOf bytes) (secondOf bytes) l)

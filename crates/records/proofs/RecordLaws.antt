@@ -1,7 +1,7 @@
 -- When the checks of a record pass, and which numbers they never say.
 use mathlib.Core.Path.{_≡_, refl}
-use mathlib.Core.Bool.{Bool, true}
-use mathlib.Core.Logic.{_↔_, Iff·rfl, Iff·trans, Iff·and}
+use mathlib.Core.Bool.{Bool, true, false, _||_}
+use mathlib.Core.Logic.{_↔_, _⊎_, inl, inr, Iff·rfl, Iff·trans, Iff·and}
 use mathlib.Core.List.{List}
 use Prim.Native.Nat.{ℕ, _<_, _≤_}
 use native.Mathlib.Omega.{arith}
@@ -14,16 +14,14 @@ use Rattle.encoding.specs.Codes.{firstInvalidCode}
 use Rattle.encoding.specs.Header.{hasMark, versionOf}
 use Rattle.encoding.proofs.Words.{length-elementOf, unreduced-iff}
 use Rattle.answers.specs.declared.Refusal.{Refusal}
-use Rattle.answers.specs.declared.KeyPart.{KeyPart}
-use Rattle.answers.specs.declared.KeyRecord.{KeyRecord}
-use Rattle.answers.specs.declared.KeyRecord.the-variants.{PublicKey, SeededPublicKey, SecretKey}
+use Rattle.answers.specs.declared.KeyRecord.the-variants.{PublicKey, SeededPublicKey}
 use Rattle.answers.specs.declared.EncapsulationRecord.the-variants.{SealedEntry, Encapsulation}
 use Rattle.answers.specs.declared.Refusal.the-variants.{WrongMark, WrongVersion, InvalidCode}
 use Rattle.answers.specs.declared.Answer.the-variants.{Done}
 use Rattle.answers.specs.Answers.{refusalNumber, unless}
-use Rattle.records.specs.Layout.{publicKeyMark, seededKeyMark, secretKeyMark, sealedEntryMark}
+use Rattle.records.specs.Layout.{publicKeyMark, seededKeyMark, sealedEntryMark}
 use Rattle.records.specs.Records.{headerAnswer, aWord, bWord, c1Word, c2Word, wordsAnswer, codesAnswer, elementsAnswer, firstOf, secondOf, recordAnswer}
-use Rattle.records.specs.Records.{publicFrontAnswer, secretFrontAnswer, sealedEntryAnswer, seededB, seededRecordAnswer, c1Of, c2Of, encapsulationAnswer}
+use Rattle.records.specs.Records.{publicFrontAnswer, sealedEntryAnswer, seededB, seededRecordAnswer, c1Of, c2Of, encapsulationAnswer}
 use Rattle.records.specs.WellFormed.{WellFormedFront}
 use Rattle.answers.proofs.AnswerLaws.{unless-done, then-done, Never, done-never, unless-never, then-never}
 
@@ -32,6 +30,22 @@ use Rattle.answers.proofs.AnswerLaws.{unless-done, then-done, Never, done-never
 -- a test of two numbers that are to be equal
 pub equal-done : (i j : ℕ) (r : Refusal) → (unless (eqb i j) r Done ≡ Done) ↔ (i ≡ j)
 equal-done i j r = (λ e. eqb-true i j (unless-done (eqb i j) r Done .0 e .0), λ e. unless-done (eqb i j) r Done .1 (eq-eqb i j e, refl))
+
+-- .. of one that is to be one of two
+pub one-of-two : (i j k : ℕ) → (eqb i j || eqb i k ≡ true) ↔ ((i ≡ j) ⊎ (i ≡ k))
+one-of-two i j k = (either (eqb i j) refl, one)
+  where
+    either : (t : Bool) → eqb i j ≡ t → t || eqb i k ≡ true → (i ≡ j) ⊎ (i ≡ k)
+    either true e h = inl (eqb-true i j e)
+    either false e h = inr (eqb-true i k h)
+
+    one : (i ≡ j) ⊎ (i ≡ k) → eqb i j || eqb i k ≡ true
+    one (inl e) = rw (eq-eqb i j e)
+    one (inr e) = at (eqb i j)
+      where
+        at : (t : Bool) → t || eqb i k ≡ true
+        at true = refl
+        at false = eq-eqb i k e
 
 pub header-done : (mark : List ℕ) (version : ℕ) (bytes : List ℕ) → (headerAnswer mark version bytes ≡ Done) ↔ ((hasMark mark bytes ≡ true) × (versionOf bytes ≡ version))
 unfolding headerAnswer
@@ -65,9 +79,6 @@ record-done mark version one other bytes =
 pub public-front-done : (bytes : List ℕ) → (publicFrontAnswer bytes ≡ Done) ↔ WellFormedFront publicKeyMark 1 bytes
 public-front-done = record-done publicKeyMark 1 (aWord PublicKey) (bWord PublicKey)
 
-pub secret-front-done : (bytes : List ℕ) → (secretFrontAnswer bytes ≡ Done) ↔ WellFormedFront secretKeyMark 1 bytes
-secret-front-done = record-done secretKeyMark 1 (aWord SecretKey) (bWord SecretKey)
-
 pub sealed-entry-done : (bytes : List ℕ) → (sealedEntryAnswer bytes ≡ Done) ↔ WellFormedFront sealedEntryMark 1 bytes
 sealed-entry-done = record-done sealedEntryMark 1 (c1Word SealedEntry) (c2Word SealedEntry)
 
@@ -98,7 +109,7 @@ pub above-lower : {m m′ k : ℕ} → m ≤ m′ → OneOrAbove m′ k → OneO
 above-lower h (some, above) = (some, λ l. omega (arith, above l))
 
 -- a test and nothing behind it
-test-never : {k : ℕ} → 0 < k → (t : Bool) (r : Refusal) → ¬ (refusalNumber r ≡ k) → Never k (unless t r Done)
+pub test-never : {k : ℕ} → 0 < k → (t : Bool) (r : Refusal) → ¬ (refusalNumber r ≡ k) → Never k (unless t r Done)
 test-never some t r other = unless-never t r other (done-never some)
 
 -- mark and version are refused under 2 and 3
@@ -113,7 +124,7 @@ unfolding codesAnswer
 codes-never some other bytes = test-never some (eqb (firstInvalidCode bytes) 1024) InvalidCode other
 
 -- a word's refusal has another number
-words-never : {k : ℕ} → 0 < k → (word : ℕ → Refusal) (a : List ℕ) → ((i : ℕ) → ¬ (refusalNumber (word i) ≡ k)) → Never k (wordsAnswer word a)
+pub words-never : {k : ℕ} → 0 < k → (word : ℕ → Refusal) (a : List ℕ) → ((i : ℕ) → ¬ (refusalNumber (word i) ≡ k)) → Never k (wordsAnswer word a)
 unfolding wordsAnswer
 words-never some word a other = test-never some (eqb (firstUnreduced a) n) (word (firstUnreduced a)) (other (firstUnreduced a))
 
@@ -135,22 +146,15 @@ seeded-never h bytes =
     then-never (header-never (above-lower (omega arith) h) seededKeyMark 1 bytes)
     (words-never (h .0) (bWord SeededPublicKey) (seededB bytes) (λ i. none-of h (omega arith)))
 
-key-record-never : {k : ℕ} → OneOrAbove 4 k → (mark : List ℕ) (version : ℕ) (key : KeyPart → KeyRecord) (bytes : List ℕ)
-    → Never k (recordAnswer mark version (aWord key) (bWord key) bytes)
-key-record-never h mark version key bytes =
-    record-never (above-lower (omega arith) h) mark version (aWord key) (bWord key) bytes (λ i. none-of h (omega arith))
+pub public-front-never : {k : ℕ} → OneOrAbove 4 k → (bytes : List ℕ) → Never k (publicFrontAnswer bytes)
+public-front-never h bytes =
+    record-never (above-lower (omega arith) h) publicKeyMark 1 (aWord PublicKey) (bWord PublicKey) bytes (λ i. none-of h (omega arith))
     (λ i. none-of h (omega arith))
 
-pub public-front-never : {k : ℕ} → OneOrAbove 4 k → (bytes : List ℕ) → Never k (publicFrontAnswer bytes)
-public-front-never h = key-record-never h publicKeyMark 1 PublicKey
-
-pub secret-front-never : {k : ℕ} → OneOrAbove 4 k → (bytes : List ℕ) → Never k (secretFrontAnswer bytes)
-secret-front-never h = key-record-never h secretKeyMark 1 SecretKey
-
 -- the words of what is sealed to a key are refused under 11
-pub sealed-entry-never : {k : ℕ} → 3 < k → ¬ (11 ≡ k) → (bytes : List ℕ) → Never k (sealedEntryAnswer bytes)
+pub sealed-entry-never : {k : ℕ} → OneOrAbove 3 k → ¬ (11 ≡ k) → (bytes : List ℕ) → Never k (sealedEntryAnswer bytes)
 sealed-entry-never h other bytes =
-    record-never (omega arith) sealedEntryMark 1 (c1Word SealedEntry) (c2Word SealedEntry) bytes (λ i e. other e) (λ i e. other e)
+    record-never h sealedEntryMark 1 (c1Word SealedEntry) (c2Word SealedEntry) bytes (λ i e. other e) (λ i e. other e)
 
 pub encapsulation-never : {k : ℕ} → 0 < k → ¬ (11 ≡ k) → (bytes : List ℕ) → Never k (encapsulationAnswer bytes)
 encapsulation-never some other bytes =

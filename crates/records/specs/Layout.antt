@@ -1,4 +1,4 @@
--- The layout of the records of document 01 ("Bytes") and of document 02, No. 2: marks, lengths, and where each part starts.
+-- The layout of the records of document 01 ("Bytes") and of document 02, No. 2 and 5: marks, versions, lengths, and where each part starts.
 use mathlib.Core.List.{List, [], _∷_}
 use Prim.Native.Nat.{ℕ}
 pub use Rattle.encoding.specs.Header.{headerLength}
@@ -23,6 +23,16 @@ secretKeyMark = 83 ∷ 68 ∷ 75 ∷ []
 abbrev pub sealedEntryMark : List ℕ
 sealedEntryMark = 80 ∷ 76 ∷ 71 ∷ []
 
+-- ---- versions of a secret key
+
+-- document 01's
+abbrev pub secretKeyVersion : ℕ
+secretKeyVersion = 1
+
+-- expanded: document 02's, with the inverse of b
+abbrev pub expandedKeyVersion : ℕ
+expandedKeyVersion = 2
+
 -- ---- lengths
 
 abbrev pub publicKeyLength : ℕ
@@ -37,6 +47,13 @@ seededKeyLength = 2085
 -- document 01's desk key
 abbrev pub secretKeyLength : ℕ
 secretKeyLength = 4357
+
+abbrev pub expandedKeyLength : ℕ
+expandedKeyLength = 6405
+
+-- a, b and s of either version
+abbrev pub keyBodyLength : ℕ
+keyBodyLength = 4352
 
 abbrev pub sealedEntryLength : ℕ
 sealedEntryLength = 4133
@@ -68,6 +85,10 @@ thirdPlace = 4101
 
 abbrev pub tagPlace : ℕ
 tagPlace = 4117
+
+-- of the inverse of b, behind s of an expanded secret key
+abbrev pub inversePlace : ℕ
+inversePlace = 4357
 
 -- ---- places, in a seeded public key
 

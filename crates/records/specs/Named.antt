@@ -21,3 +21,7 @@ Named r p words l = (i : ℕ) × (l ≡ at r p i) × FirstUnreduced words i
 -- .. of parts p and p′: it is in the second only where every word of the first is below q
 abbrev pub NamedInTwo : (r p p′ : ℕ) (first second : List ℕ) (l : Location) → Type 0
 NamedInTwo r p p′ first second l = Named r p first l ⊎ (Element first × Named r p′ second l)
+
+-- .. and p″: it is in the third only where every word of the others is below q
+abbrev pub NamedInThree : (r p p′ p″ : ℕ) (first second third : List ℕ) (l : Location) → Type 0
+NamedInThree r p p′ p″ first second third l = NamedInTwo r p p′ first second l ⊎ (Element first × Element second × Named r p″ third l)

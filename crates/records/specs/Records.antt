@@ -1,4 +1,4 @@
--- The records of document 01 ("Bytes") and of document 02, No. 2: their parts, what their checks answer and in which order (No. 3 names
+-- The records of document 01 ("Bytes") and of document 02, No. 2 and 5: their parts, what their checks answer and in which order (No. 3 names
 -- the first word that is q or more), and what their writers write.
 use mathlib.Core.List.{List, _++_}
 use Prim.Native.Nat.{ℕ}
@@ -9,7 +9,7 @@ use Rattle.encoding.specs.Words.{elementOf, firstUnreduced, elementBytes}
 use Rattle.encoding.specs.Codes.{ternaryOf, firstInvalidCode, ternaryBytes}
 use Rattle.encoding.specs.Header.{hasMark, versionOf, header}
 use Rattle.answers.specs.declared.KeyPart.{KeyPart}
-use Rattle.answers.specs.declared.KeyPart.the-variants.{A, B}
+use Rattle.answers.specs.declared.KeyPart.the-variants.{A, B, StoredInverse}
 use Rattle.answers.specs.declared.KeyRecord.{KeyRecord}
 use Rattle.answers.specs.declared.KeyRecord.the-variants.{PublicKey, SeededPublicKey, SecretKey}
 use Rattle.answers.specs.declared.EncapsulationPart.{EncapsulationPart}
@@ -21,8 +21,9 @@ use Rattle.answers.specs.declared.Refusal.the-variants.{WrongMark, WrongVersion
 use Rattle.answers.specs.declared.Answer.{Answer}
 use Rattle.answers.specs.declared.Answer.the-variants.{Done}
 use Rattle.answers.specs.Answers.{unless, andThen}
-use Rattle.records.specs.Layout.{elementLength, ternaryLength, blockLength, seedLength, firstPlace, secondPlace, thirdPlace, tagPlace, seedPlace, seededBPlace}
-use Rattle.records.specs.Layout.{publicKeyMark, seededKeyMark, secretKeyMark, sealedEntryMark}
+use Rattle.records.specs.Layout.{headerLength, elementLength, ternaryLength, blockLength, seedLength, keyBodyLength}
+use Rattle.records.specs.Layout.{firstPlace, secondPlace, thirdPlace, tagPlace, inversePlace, seedPlace, seededBPlace}
+use Rattle.records.specs.Layout.{publicKeyMark, seededKeyMark, secretKeyMark, sealedEntryMark, secretKeyVersion, expandedKeyVersion}
 
 -- k bytes from place i on
 abbrev pub part : (i k : ℕ) (bytes : List ℕ) → List ℕ
@@ -40,6 +41,9 @@ aWord key i = KeyOutOfRange (key (A i))
 
 abbrev pub bWord : (KeyPart → KeyRecord) → ℕ → Refusal
 bWord key i = KeyOutOfRange (key (B i))
+
+abbrev pub inverseWord : ℕ → Refusal
+inverseWord i = KeyOutOfRange (SecretKey (StoredInverse i))
 
 abbrev pub c1Word : (EncapsulationPart → EncapsulationRecord) → ℕ → Refusal
 c1Word encapsulation i = EncapsulationOutOfRange (encapsulation (C1 i))
@@ -80,9 +84,6 @@ recordAnswer mark version one other bytes = andThen (headerAnswer mark version b
 abbrev pub publicFrontAnswer : List ℕ → Answer
 publicFrontAnswer bytes = recordAnswer publicKeyMark 1 (aWord PublicKey) (bWord PublicKey) bytes
 
-abbrev pub secretFrontAnswer : List ℕ → Answer
-secretFrontAnswer bytes = recordAnswer secretKeyMark 1 (aWord SecretKey) (bWord SecretKey) bytes
-
 abbrev pub sealedEntryAnswer : List ℕ → Answer
 sealedEntryAnswer bytes = recordAnswer sealedEntryMark 1 (c1Word SealedEntry) (c2Word SealedEntry) bytes
 
@@ -102,6 +103,21 @@ secretOf bytes = ternaryOf (codesPart bytes)
 
 abbrev pub secretKeyBytes : (a b s : List ℕ) → List ℕ
 secretKeyBytes a b s = recordBytes secretKeyMark 1 a b ++ ternaryBytes s
+
+-- the inverse of b that an expanded secret key stores
+abbrev pub storedInverse : List ℕ → List ℕ
+storedInverse bytes = elementOf (part inversePlace elementLength bytes)
+
+-- a, b and s as they stand in a secret key of either version
+abbrev pub keyBody : List ℕ → List ℕ
+keyBody bytes = part headerLength keyBodyLength bytes
+
+-- the record of each version with the a, b and s of a key; i is the inverse
+unfoldable pub compactBytes : (key : List ℕ) → List ℕ
+compactBytes k = header secretKeyMark secretKeyVersion ++ keyBody k
+
+unfoldable pub expandedBytes : (key i : List ℕ) → List ℕ
+expandedBytes k i = header secretKeyMark expandedKeyVersion ++ keyBody k ++ elementBytes i
 
 -- body and tag of a sealed entry
 abbrev pub bodyPart : List ℕ → List ℕ

@@ -1,4 +1,4 @@
-// The records of document 01 and of document 02, No. 2, as bytes: their layout, what their checks answer, in order, and the front that keys
+// The records of document 01 and of document 02, No. 2 and 5, as bytes: their layout, what their checks answer, in order, and the front that keys
 // and sealed entries share, read and written. Document 01's keys are written here; seeded_records, sealed_records, batch_records and triples have
 // the other records.
 // The calls test every length first, so the functions here are lent buffers of the record's length.
@@ -52,6 +52,15 @@ pub const SEEDED_B: usize = SEED + SEED_LENGTH;
 pub const SEEDED_KEY_LENGTH: usize = SEEDED_B + ELEMENT_LENGTH;
 
 pub const SECRET_KEY_LENGTH: usize = THIRD + TERNARY_LENGTH;
+
+// The versions of a secret key. That of an expanded one has the inverse of b behind s.
+pub const SECRET_KEY_VERSION: u16 = 1;
+
+pub const EXPANDED_KEY_VERSION: u16 = 2;
+
+pub const INVERSE: usize = SECRET_KEY_LENGTH;
+
+pub const EXPANDED_KEY_LENGTH: usize = INVERSE + ELEMENT_LENGTH;
 
 pub const SEALED_ENTRY_LENGTH: usize = TAG + BLOCK_LENGTH;
 
@@ -108,7 +117,32 @@ pub fn check_codes(bytes: &[u8]) -> Answer
 
 // ---- readers
 
-// Two elements, what mark and version are answered by, and where words are q or more.
+// Two elements, and where words are q or more.
+pub struct Pair {
+    pub first: Element,
+    pub second: Element,
+    pub unreduced: Places,
+}
+
+// Those of a public key, or of the front of a secret key or of a sealed entry.
+pub fn read_pair(bytes: &[u8]) -> Pair
+    requires { ⌜ thirdPlace ≤ length (now bytes) ⌝ }
+    ensures { λ r. ⌜ (r .first ≡ firstOf (now (bytes .entry))) × (r .second ≡ secondOf (now (bytes .entry))) ⌝ }
+    ensures { λ r. ⌜ (r .unreduced .first ≡ firstUnreduced (firstOf (now (bytes .entry)))) × (r .unreduced .second ≡ firstUnreduced (secondOf (now (bytes .entry)))) ⌝ }
+{
+    let first = encoding::decode_element(&bytes[FIRST..SECOND]);
+    let second = encoding::decode_element(&bytes[SECOND..THIRD]);
+    Pair {
+        first,
+        second,
+        unreduced: Places {
+            first: encoding::first_unreduced(first),
+            second: encoding::first_unreduced(second),
+        },
+    }
+}
+
+// .. and what mark and version are answered by.
 pub struct Elements {
     pub header: Answer,
     pub first: Element,
@@ -116,23 +150,22 @@ pub struct Elements {
     pub unreduced: Places,
 }
 
-// A public key, or the front of a secret key or of a sealed entry.
+// A public key, or the front of a sealed entry.
 pub fn read_record(bytes: &[u8], mark: [u8; MARK_LENGTH], version: u16) -> Elements
     requires { ⌜ thirdPlace ≤ length (now bytes) ⌝ }
     ensures { λ r. ⌜ r .header ≡ headerAnswer mark version (now (bytes .entry)) ⌝ }
     ensures { λ r. ⌜ (r .first ≡ firstOf (now (bytes .entry))) × (r .second ≡ secondOf (now (bytes .entry))) ⌝ }
     ensures { λ r. ⌜ (r .unreduced .first ≡ firstUnreduced (firstOf (now (bytes .entry)))) × (r .unreduced .second ≡ firstUnreduced (secondOf (now (bytes .entry)))) ⌝ }
 {
-    let first = encoding::decode_element(&bytes[FIRST..SECOND]);
-    let second = encoding::decode_element(&bytes[SECOND..THIRD]);
+    let read = read_pair(bytes);
+    let first = read.first;
+    let second = read.second;
+    let unreduced = read.unreduced;
     Elements {
         header: check_header(bytes, mark, version),
         first,
         second,
-        unreduced: Places {
-            first: encoding::first_unreduced(first),
-            second: encoding::first_unreduced(second),
-        },
+        unreduced,
     }
 }
 
@@ -175,6 +208,6 @@ pub fn write_secret_key(a: Element, b: Element, s: Element, out: &mut [u8])
     requires { ⌜ length (now out) ≡ secretKeyLength ⌝ }
     ensures { λ _. ⌜ now (out .exit) ≡ secretKeyBytes a b s ⌝ }
 {
-    write_record(SECRET_KEY_MARK, 1, a, b, out);
+    write_record(SECRET_KEY_MARK, SECRET_KEY_VERSION, a, b, out);
     encoding::encode_ternary(s, &mut out[THIRD..SECRET_KEY_LENGTH]);
 }

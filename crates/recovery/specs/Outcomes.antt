@@ -10,7 +10,7 @@ use Rattle.scheme.specs.declared.Triple as Declared
 use Rattle.derivation.specs.Derivation.{key0}
 use Rattle.answers.specs.declared.Answer.{Answer}
 use Rattle.answers.specs.Answers.{andThen}
-use Rattle.keys.specs.declared.SecretKey.{SecretKey}
+use Rattle.secret_keys.specs.declared.SecretKey.{SecretKey}
 use Rattle.calls.specs.Calls.{outcomeAnswer, openedAnswer}
 
 abbrev pub asTriple : Declared.Triple → Triple
@@ -23,10 +23,10 @@ answered failed = record { r = zeros n; e1 = zeros n; e2 = zeros n }
 
 -- ---- by a key that was read, of an encapsulation that was read
 
--- what is found; key and inverse are given by their spectra
-abbrev pub outcomeBy : (key : SecretKey) (inverse : List ℕ) (dummy : Declared.Triple) (c1 c2 : List ℕ) → Outcome
-outcomeBy key inverse dummy c1 c2 =
-    decapsulation (coefficientsOf (key .a)) (coefficientsOf (key .b)) (coefficientsOf inverse) (coefficientsOf (key .s)) (asTriple dummy) c1 c2
+-- what is found; the key is given by its spectra
+abbrev pub outcomeBy : (key : SecretKey) (dummy : Declared.Triple) (c1 c2 : List ℕ) → Outcome
+outcomeBy key dummy c1 c2 =
+    decapsulation (coefficientsOf (key .a)) (coefficientsOf (key .b)) (coefficientsOf (key .inverse)) (coefficientsOf (key .s)) (asTriple dummy) c1 c2
 
 -- 9 behind the answers to key, encapsulation and dummy
 abbrev pub decapsulatedBy : (key encapsulation dummy : Answer) (o : Outcome) → Answer

@@ -2,12 +2,11 @@
 // answer is worked out before they are joined in document 01's order; where no triple is found the triple is zeros.
 use answers::Answer;
 use answers::Refusal;
-use keys::SecretKey;
-use ntt::Spectrum;
 use octets::BLOCK_LENGTH;
 use scheme::Encapsulation;
 use scheme::Triple;
 use sealed_records::ReadEncapsulation;
+use secret_keys::SecretKey;
 ghost use mathlib.Core.Path.{_≡_};
 ghost use mathlib.Core.List.{_++_};
 ghost use Prim.Native.Nat.{_%_};
@@ -23,11 +22,9 @@ pub struct Decapsulated {
     pub triple: Triple,
 }
 
-// By a key that was read, the spectrum of the inverse of its b, an encapsulation and a dummy; `codes` is what the dummy's codes are answered
-// by.
+// By a key that was read, an encapsulation and a dummy; `codes` is what the dummy's codes are answered by.
 pub fn find_triple(
     key: SecretKey,
-    inverse: Spectrum,
     c: ReadEncapsulation,
     codes: Answer,
     dummy: Triple,
@@ -35,13 +32,14 @@ pub fn find_triple(
     backward: &[u16],
 ) -> Decapsulated
     requires { ⌜ (now forward ≡ forwardFactors) × (now backward ≡ backwardFactors) ⌝ }
-    ensures { λ d. ⌜ d .answer ≡ decapsulatedBy (key .answer) (c .answer) codes (outcomeBy key inverse dummy (c .c1) (c .c2)) ⌝ }
-    ensures { λ d. ⌜ asTriple (d .triple) ≡ answered (outcomeBy key inverse dummy (c .c1) (c .c2)) ⌝ }
+    ensures { λ d. ⌜ d .answer ≡ decapsulatedBy (key .answer) (c .answer) codes (outcomeBy key dummy (c .c1) (c .c2)) ⌝ }
+    ensures { λ d. ⌜ asTriple (d .triple) ≡ answered (outcomeBy key dummy (c .c1) (c .c2)) ⌝ }
 {
     let checked = key.answer;
     let a = key.a;
     let b = key.b;
     let s = key.s;
+    let inverse = key.inverse;
     let words = c.answer;
     let c1 = c.c1;
     let c2 = c.c2;
@@ -72,11 +70,10 @@ pub struct Recovered {
     pub k0: [u8; BLOCK_LENGTH],
 }
 
-// By a key that was read, the spectrum of the inverse of its b, an encapsulation and a dummy; the tag is that of the blocks in `front`, of
-// which a single entry has none, and of the body. Nothing of the entry is shown here.
+// By a key that was read, an encapsulation and a dummy; the tag is that of the blocks in `front`, of which a single entry has none, and of the
+// body. Nothing of the entry is shown here.
 pub fn recover(
     key: SecretKey,
-    inverse: Spectrum,
     c: ReadEncapsulation,
     dummy: Triple,
     front: &[u8],
@@ -86,13 +83,14 @@ pub fn recover(
     backward: &[u16],
 ) -> Recovered
     requires { ⌜ (length (now front) % 16 ≡ 0) × (now forward ≡ forwardFactors) × (now backward ≡ backwardFactors) ⌝ }
-    ensures { λ r. ⌜ r .answer ≡ openedBy (key .answer) (c .answer) (outcomeBy key inverse dummy (c .c1) (c .c2)) (now (front .entry) ++ now (body .entry)) tag ⌝ }
-    ensures { λ r. ⌜ r .k0 ≡ tripleKey0 (answered (outcomeBy key inverse dummy (c .c1) (c .c2))) ⌝ }
+    ensures { λ r. ⌜ r .answer ≡ openedBy (key .answer) (c .answer) (outcomeBy key dummy (c .c1) (c .c2)) (now (front .entry) ++ now (body .entry)) tag ⌝ }
+    ensures { λ r. ⌜ r .k0 ≡ tripleKey0 (answered (outcomeBy key dummy (c .c1) (c .c2))) ⌝ }
 {
     let checked = key.answer;
     let a = key.a;
     let b = key.b;
     let s = key.s;
+    let inverse = key.inverse;
     let words = c.answer;
     let c1 = c.c1;
     let c2 = c.c2;

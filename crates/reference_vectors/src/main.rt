@@ -127,6 +127,14 @@ fn check_key_files() {
     check_file(Kind::Keygen(Source::Stream), b"keygen.bin");
     check_file(Kind::Keygen(Source::Seed), b"keygen_from_seed.bin");
     check_file(Kind::CheckSecretKey, b"check_secret_key.bin");
+    check_file(
+        Kind::Writing(Call::ExpandSecretKey),
+        b"expand_secret_key.bin",
+    );
+    check_file(
+        Kind::Writing(Call::CompactSecretKey),
+        b"compact_secret_key.bin",
+    );
 }
 
 fn check_call_files() {

@@ -1,6 +1,6 @@
 -- The scheme at 1,024 coefficients.
 pub mod Scheme
--- What the functions answer.
+-- What decapsulation answers.
 pub mod Answers
 -- How large m of step 2 can be.
 pub mod Noise

@@ -8,8 +8,9 @@ ghost use mathlib.Core.Bool.{decide};
 ghost use Rattle.ntt.specs.Spectrum.{spectrumOf, coefficientsOf};
 ghost use Rattle.ntt.specs.Factors.{forwardFactors, backwardFactors};
 ghost use Rattle.ring.specs.Invertible.{invertible?};
+ghost use Rattle.ring.specs.Centred.{within?};
 ghost use Rattle.scheme.specs.Scheme.{keyElement, keyError, masked, summed, phase, recovered, recovers?, withoutDummy, ternary?, judged, core, decapsulation};
-ghost use Rattle.scheme.specs.Answers.{verdict, keyCheck, tripleOf, answer};
+ghost use Rattle.scheme.specs.Answers.{tripleOf, answer};
 
 // ---- keys
 
@@ -26,19 +27,12 @@ pub struct PreparedPublicKey {
     pub invertible: bool,
 }
 
-// Sound, or document 01's number 6 or 7.
-pub enum KeyCheck {
-    Sound,
-    NotInvertible,
-    KeyMismatch,
-}
-
-// What the key check says of a secret key, and the spectra of a, b and s.
+// The spectra of a secret key's a, b and s, and whether b = 5 (a × s + e) for a ternary e.
 pub struct CheckedKey {
     pub a: Spectrum,
     pub b: Spectrum,
     pub s: Spectrum,
-    pub check: KeyCheck,
+    pub matches: bool,
 }
 
 // Key generation from a, s and e. It tries once.
@@ -77,19 +71,7 @@ fn key_error(a: Spectrum, b: Element, s: Spectrum, backward: &[u16]) -> Element
     ring::difference(ring::multiple(35636, b), product)
 }
 
-fn verdict(invertible: bool, ternary: bool) -> KeyCheck
-    ensures { λ r. ⌜ r ≡ verdict invertible ternary ⌝ }
-{
-    if !invertible {
-        return KeyCheck::NotInvertible;
-    }
-    if !ternary {
-        return KeyCheck::KeyMismatch;
-    }
-    KeyCheck::Sound
-}
-
-// The key check, beside the key's spectra.
+// The key check but for the inverse of b: whether b = 5 (a × s + e) for a ternary e, beside the key's spectra.
 pub fn check_key(
     a: Element,
     b: Element,
@@ -98,20 +80,19 @@ pub fn check_key(
     backward: &[u16],
 ) -> CheckedKey
     requires { ⌜ (now forward ≡ forwardFactors) × (now backward ≡ backwardFactors) ⌝ }
-    ensures { λ r. ⌜ r .check ≡ keyCheck a b s ⌝ }
+    ensures { λ r. ⌜ r .matches ≡ within? 1 (keyError a b s) ⌝ }
     ensures { λ r. ⌜ (r .a ≡ spectrumOf a) × (r .b ≡ spectrumOf b) × (r .s ≡ spectrumOf s) ⌝ }
 {
     let a_spectrum = ntt::forward(a, forward);
     let b_spectrum = ntt::forward(b, forward);
     let s_spectrum = ntt::forward(s, forward);
-    let zero = ring::has_zero(b_spectrum);
     let error = key_error(a_spectrum, b, s_spectrum, backward);
-    let ternary = ring::is_within(error, 1);
+    let matches = ring::is_within(error, 1);
     CheckedKey {
         a: a_spectrum,
         b: b_spectrum,
         s: s_spectrum,
-        check: verdict(!zero, ternary),
+        matches,
     }
 }
 

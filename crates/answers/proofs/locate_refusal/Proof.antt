@@ -6,7 +6,7 @@ use denote.Enum.Declared.{tagOf}
 use Rattle.answers.proofs.Refusal as Told
 use Rattle.answers.specs.declared.Refusal.{Refusal}
 use Rattle.answers.specs.declared.Refusal.the-variants.{WrongLength, WrongMark, WrongVersion, KeyOutOfRange, InvalidCode}
-use Rattle.answers.specs.declared.Refusal.the-variants.{NotInvertible, KeyMismatch, StreamExhausted, DecapsulationFailure, TagMismatch, EncapsulationOutOfRange, WrongCount}
+use Rattle.answers.specs.declared.Refusal.the-variants.{NotInvertible, KeyMismatch, StreamExhausted, DecapsulationFailure, TagMismatch, EncapsulationOutOfRange, WrongCount, InverseMismatch}
 use Rattle.answers.specs.Locations.{nowhere, refusalLocation}
 use borrow.Author.Needs.{needs}
 use Rattle.answers.proofs.locate_refusal.Statement.{statement}
@@ -32,7 +32,7 @@ returns-2 c = search needs
 
 -- the cases of the last arm: all but the fourth and the eleventh
 abbrev cases : List ℕ
-cases = 0 ∷ 1 ∷ 2 ∷ 4 ∷ 5 ∷ 6 ∷ 7 ∷ 8 ∷ 9 ∷ 11 ∷ []
+cases = 0 ∷ 1 ∷ 2 ∷ 4 ∷ 5 ∷ 6 ∷ 7 ∷ 8 ∷ 9 ∷ 11 ∷ 12 ∷ []
 
 last-arm : (r : Refusal) → OneOf cases (tagOf Told.the-type r) → nowhere ≡ refusalLocation r
 last-arm WrongLength h = refl
@@ -47,6 +47,7 @@ last-arm DecapsulationFailure h = refl
 last-arm TagMismatch h = refl
 last-arm (EncapsulationOutOfRange k) h = absurd (miss cases 10 tt h)
 last-arm WrongCount h = refl
+last-arm InverseMismatch h = refl
 
 returns-3 : tie.Need-returns-3
 returns-3 c = last-arm (c .before .args .r) (c .match .keys3)

@@ -26,7 +26,9 @@ open-records-requires : tie.Need-open-records-requires
 open-records-requires c κs =
     let left = c .before in
     let args = left .before .before .before .before .before .args in
-    opening-fits (now (args .key)) (now (args .batch)) (now (args .noise)) (length (now (args .out))) .0 (not-false _ (left .if1 .left))
+    let (_, size, noise, room) =
+    opening-fits (now (args .key)) (now (args .batch)) (now (args .noise)) (length (now (args .out))) .0 (not-false _ (left .if1 .left)) in
+    (size, noise, room)
 
 same-length : tie.Need-same-length
 same-length c = search needs

@@ -10,7 +10,7 @@ use Rattle.answers.specs.Answers.{onDone}
 use Rattle.batch_records.specs.Batches.{countBlock}
 use Rattle.batch_records.specs.Read.{countAnswer, bodyLength}
 use Rattle.sealed_records.specs.Front.{sealedFrontAnswer}
-use Rattle.keys.specs.Keys.{secretAnswer}
+use Rattle.secret_keys.specs.SecretKeys.{secretAnswer}
 use Rattle.calls.specs.Calls.{openedEntry}
 use Rattle.batch_calls.specs.Calls.{batchOutcome}
 use Rattle.recovery.specs.Outcomes.{openedBy}
@@ -73,8 +73,8 @@ part-open-sealed-end-3 c = search needs
 open-sealed-requires : tie.Need-open-sealed-requires
 open-sealed-requires c κs =
     let start = c .before .before .before .before .before .before .before .before .before .before .before .before in
-    let (key, size, noise, room) = start .pre in
-    (key, omega (arith, size), noise, search needs, omega arith, omega arith)
+    let (size, noise, room) = start .pre in
+    (omega (arith, size), noise, search needs, omega arith, omega arith)
 
 count-shown-requires : tie.Need-count-shown-requires
 count-shown-requires c κs = search needs

@@ -1,6 +1,7 @@
 use mathlib.Core.Path.{refl}
 use denote.Ref.{now}
-use Rattle.call_cases.specs.declared.Call.the-variants.{Encapsulate, Decapsulate, Seal, Open, SealBatch, Shake128, Shake256}
+use Rattle.call_cases.specs.declared.Call.the-variants.{Encapsulate, Decapsulate, Seal, Open, SealBatch}
+use Rattle.call_cases.specs.declared.Call.the-variants.{ExpandSecretKey, CompactSecretKey, Shake128, Shake256}
 use Rattle.call_cases.proofs.Calls.{called}
 use borrow.Author.Needs.{needs}
 use Rattle.call_cases.proofs.run.Statement.{statement}
@@ -39,11 +40,23 @@ seal-batch-requires c κs = search needs
 enum-told-6 : tie.Need-enum-told-6
 enum-told-6 c = search needs
 
-shake128-requires : tie.Need-shake128-requires
-shake128-requires c κs = search needs
+expand-secret-key-requires : tie.Need-expand-secret-key-requires
+expand-secret-key-requires c κs = search needs
 
 enum-told-7 : tie.Need-enum-told-7
 enum-told-7 c = search needs
+
+compact-secret-key-requires : tie.Need-compact-secret-key-requires
+compact-secret-key-requires c κs = search needs
+
+enum-told-8 : tie.Need-enum-told-8
+enum-told-8 c = search needs
+
+shake128-requires : tie.Need-shake128-requires
+shake128-requires c κs = search needs
+
+enum-told-9 : tie.Need-enum-told-9
+enum-told-9 c = search needs
 
 shake256-requires : tie.Need-shake256-requires
 shake256-requires c κs = search needs
@@ -99,8 +112,9 @@ same-length-6 c = search needs
 returns-6 : tie.Need-returns-6
 returns-6 c =
     let args = c .before .before .before .before .before .before .before .before .before .before .args in
-    called Shake128 (now (args .x)) (now (args .y)) (now (args .z)) (now (args .out))
-    (c .before .before .before .before .enum-told6 .given .1) (refl, c .before .before .shake128 .ensures)
+    called ExpandSecretKey (now (args .x)) (now (args .y)) (now (args .z)) (now (args .out))
+    (c .before .before .before .before .enum-told6 .given .1)
+    (c .before .before .expand-secret-key .ensures .0, c .before .before .expand-secret-key .ensures .1 .0)
 
 same-length-7 : tie.Need-same-length-7
 same-length-7 c = search needs
@@ -108,8 +122,27 @@ same-length-7 c = search needs
 returns-7 : tie.Need-returns-7
 returns-7 c =
     let args = c .before .before .before .before .before .before .before .before .before .before .args in
+    called CompactSecretKey (now (args .x)) (now (args .y)) (now (args .z)) (now (args .out))
+    (c .before .before .before .before .enum-told7 .given .1)
+    (c .before .before .compact-secret-key .ensures .0, c .before .before .compact-secret-key .ensures .1 .0)
+
+same-length-8 : tie.Need-same-length-8
+same-length-8 c = search needs
+
+returns-8 : tie.Need-returns-8
+returns-8 c =
+    let args = c .before .before .before .before .before .before .before .before .before .before .args in
+    called Shake128 (now (args .x)) (now (args .y)) (now (args .z)) (now (args .out))
+    (c .before .before .before .before .enum-told8 .given .1) (refl, c .before .before .shake128 .ensures)
+
+same-length-9 : tie.Need-same-length-9
+same-length-9 c = search needs
+
+returns-9 : tie.Need-returns-9
+returns-9 c =
+    let args = c .before .before .before .before .before .before .before .before .before .before .args in
     called Shake256 (now (args .x)) (now (args .y)) (now (args .z)) (now (args .out))
-    (c .before .before .before .before .enum-told7 .given .1) (refl, c .before .before .shake256 .ensures)
+    (c .before .before .before .before .enum-told9 .given .1) (refl, c .before .before .shake256 .ensures)
 
 pub run-spec : {M : Type 1} → statement M
 run-spec =
@@ -126,8 +159,12 @@ run-spec =
     enum-told-5
     seal-batch-requires
     enum-told-6
-    shake128-requires
+    expand-secret-key-requires
     enum-told-7
+    compact-secret-key-requires
+    enum-told-8
+    shake128-requires
+    enum-told-9
     shake256-requires
     same-length
     returns
@@ -142,4 +179,8 @@ run-spec =
     same-length-6
     returns-6
     same-length-7
-    returns-7)
+    returns-7
+    same-length-8
+    returns-8
+    same-length-9
+    returns-9)

@@ -6,7 +6,7 @@ use lib.ListN.{length, take}
 use lib.Seq.{take-all}
 use Rattle.lists.specs.Table.{zeros}
 use Rattle.text.proofs.Texts.{written-front}
-use Rattle.location_text.specs.Words.{locationText}
+use Rattle.location_text.specs.Words.{textLength, locationText}
 use Rattle.vectors.specs.Answers.{same?}
 use borrow.Author.Needs.{needs}
 use Rattle.case_outputs.proofs.is_located.Statement.{statement}
@@ -24,7 +24,7 @@ part-same-start c = search needs
 part-same-end : tie.Need-part-same-end
 part-same-end c =
     let text = c .before .before .words in
-    let size : length (text .result .bytes) ≡ 41 = search needs in
+    let size : length (text .result .bytes) ≡ textLength = search needs in
     omega (arith, size, text .ensures .1 .1)
 
 same-requires : tie.Need-same-requires
@@ -36,8 +36,8 @@ returns c =
     let end = text .result .length in
     let told = locationText (c .before .before .before .before .before .before .args .l) in
     let size = text .ensures .1 .0 in
-    let room : length told ≤ length (zeros 41) = omega (arith, size, text .ensures .1 .1) in
-    let front = written-front end told (zeros 41) (omega (arith, size)) room ∙ take-all end told (omega (arith, size)) in
+    let room : length told ≤ length (zeros textLength) = omega (arith, size, text .ensures .1 .1) in
+    let front = written-front end told (zeros textLength) (omega (arith, size)) room ∙ take-all end told (omega (arith, size)) in
     let found = ap₂ take (sub-zero end) (text .ensures .0) ∙ front in
     c .same .ensures ∙ ap₂ same? found refl
 

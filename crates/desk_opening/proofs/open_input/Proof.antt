@@ -1,7 +1,12 @@
-use mathlib.Core.Path.{sym, _∙_}
+use mathlib.Core.Path.{sym, ap, _∙_}
 use denote.Ref.{now}
 use lib.ListN.{length}
-use Rattle.desk_opening.specs.Input.{deskEntry}
+use Rattle.lists.specs.Table.{zeros}
+use Rattle.answers.specs.declared.Answer.{Answer}
+use Rattle.answers.specs.Answers.{onDone}
+use Rattle.records.specs.Layout.{blockLength}
+use Rattle.calls.specs.Calls.{openOut}
+use Rattle.desk_opening.specs.Input.{keyPart, sealedPart, dummyPart, deskEntry}
 use Rattle.desk_opening.proofs.Answers.{answer-by-length}
 use borrow.Author.Tests.{eq-eqb}
 use borrow.Author.Needs.{needs}
@@ -43,8 +48,9 @@ unfolding deskEntry
 returns c =
     let start = c .before .before .before .before .before in
     let input = now (start .args .input) in
-    let opened = c .open-parts .ensures in
-    (opened .0 ∙ sym (answer-by-length input (eq-eqb (length input) 10026 (start .pre))), opened .1)
+    let (says, entry) = c .open-parts .ensures in
+    let answer = says ∙ sym (answer-by-length input (eq-eqb (length input) 10026 (start .pre))) in
+    (answer, entry ∙ ap (λ (a : Answer). onDone a (openOut (keyPart input) (sealedPart input) (dummyPart input) (zeros blockLength)) (zeros blockLength)) answer)
 
 pub open-input-spec : {M : Type 1} → statement M
 open-input-spec =

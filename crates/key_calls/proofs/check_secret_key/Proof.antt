@@ -1,13 +1,12 @@
-use mathlib.Core.Path.{_≡_, sym, ap, _∙_}
+use mathlib.Core.Path.{sym, ap, _∙_}
 use mathlib.Core.Bool.{Bool}
 use denote.Ref.{now}
-use lib.Dec.{eqb}
 use lib.ListN.{length}
 use Rattle.ntt.proofs.Factors.{forward-size, backward-size}
-use borrow.Author.Tests.{eq-eqb, ne-eqb}
+use borrow.Author.Tests.{le-leb, lt-leb}
 use Rattle.answers.specs.declared.Refusal.the-variants.{WrongLength}
 use Rattle.answers.specs.Answers.{number, unless}
-use Rattle.keys.specs.Keys.{secretAnswer}
+use Rattle.secret_keys.specs.SecretKeys.{secretAnswer}
 use Rattle.calls.specs.Calls.{checkAnswer}
 use Rattle.calls.proofs.Promised.{check-promise}
 use borrow.Author.Needs.{needs}
@@ -18,7 +17,7 @@ returns : tie.Need-returns
 unfolding checkAnswer
 returns c =
     let k = now (c .before .before .args .key) in
-    let answer = sym (ap (λ (b : Bool). unless b WrongLength (secretAnswer k)) (ne-eqb (length k) 4357 (c .if1 .taken))) in
+    let answer = sym (ap (λ (b : Bool). unless b WrongLength (secretAnswer k)) (lt-leb 5 (length k) (c .if1 .taken))) in
     (answer, check-promise k (ap number answer))
 
 forward-factors-requires : tie.Need-forward-factors-requires
@@ -27,21 +26,21 @@ forward-factors-requires c κs = search needs
 backward-factors-requires : tie.Need-backward-factors-requires
 backward-factors-requires c κs = search needs
 
-slice-aggregate-read-secret-key : tie.Need-slice-aggregate-read-secret-key
-slice-aggregate-read-secret-key c = forward-size (c .before .before .before .forward-factors .ensures)
+slice-aggregate-check-secret-key : tie.Need-slice-aggregate-check-secret-key
+slice-aggregate-check-secret-key c = forward-size (c .before .before .before .forward-factors .ensures)
 
-slice-aggregate-read-secret-key-2 : tie.Need-slice-aggregate-read-secret-key-2
-slice-aggregate-read-secret-key-2 c = backward-size (c .before .before .backward-factors .ensures)
+slice-aggregate-check-secret-key-2 : tie.Need-slice-aggregate-check-secret-key-2
+slice-aggregate-check-secret-key-2 c = backward-size (c .before .before .backward-factors .ensures)
 
-read-secret-key-requires : tie.Need-read-secret-key-requires
-read-secret-key-requires c κs = search needs
+check-secret-key-requires : tie.Need-check-secret-key-requires
+check-secret-key-requires c κs = search needs
 
 returns-2 : tie.Need-returns-2
 unfolding checkAnswer
 returns-2 c =
     let left = c .before .before .before .before .before .before .before in
     let k = now (left .before .before .args .key) in
-    let answer = c .read-secret-key .ensures .0 ∙ sym (ap (λ (b : Bool). unless b WrongLength (secretAnswer k)) (eq-eqb (length k) 4357 (left .if1 .left))) in
+    let answer = c .check-secret-key .ensures ∙ sym (ap (λ (b : Bool). unless b WrongLength (secretAnswer k)) (le-leb 5 (length k) (left .if1 .left))) in
     (answer, check-promise k (ap number answer))
 
 pub check-secret-key-spec : {M : Type 1} → statement M
@@ -51,7 +50,7 @@ check-secret-key-spec =
     returns
     forward-factors-requires
     backward-factors-requires
-    slice-aggregate-read-secret-key
-    slice-aggregate-read-secret-key-2
-    read-secret-key-requires
+    slice-aggregate-check-secret-key
+    slice-aggregate-check-secret-key-2
+    check-secret-key-requires
     returns-2)

@@ -33,6 +33,12 @@ slice-aggregate-put-5 c = search needs
 put-requires-5 : tie.Need-put-requires-5
 put-requires-5 c κs = search needs
 
+slice-aggregate-put-6 : tie.Need-slice-aggregate-put-6
+slice-aggregate-put-6 c = search needs
+
+put-requires-6 : tie.Need-put-requires-6
+put-requires-6 c κs = search needs
+
 same-length : tie.Need-same-length
 same-length c = search needs
 
@@ -61,9 +67,15 @@ same-length-5 : tie.Need-same-length-5
 same-length-5 c = search needs
 
 returns-5 : tie.Need-returns-5
-returns-5 c =
-    let ((((_, not-1), not-2), not-4), not-5) = c .before .before .before .before .before .match .rest in
-    rw (ne-eqb _ 1 not-1, ne-eqb _ 2 not-2, ne-eqb _ 4 not-4, ne-eqb _ 5 not-5) (c .before .before .put5 .ensures)
+returns-5 c = rw (c .before .before .before .before .before .match .keys5) (c .before .before .put5 .ensures)
+
+same-length-6 : tie.Need-same-length-6
+same-length-6 c = search needs
+
+returns-6 : tie.Need-returns-6
+returns-6 c =
+    let (((((_, not-1), not-2), not-3), not-4), not-5) = c .before .before .before .before .before .match .rest in
+    rw (ne-eqb _ 1 not-1, ne-eqb _ 2 not-2, ne-eqb _ 3 not-3, ne-eqb _ 4 not-4, ne-eqb _ 5 not-5) (c .before .before .put6 .ensures)
 
 pub put-part-spec : {M : Type 1} → statement M
 put-part-spec =
@@ -79,6 +91,8 @@ put-part-spec =
     put-requires-4
     slice-aggregate-put-5
     put-requires-5
+    slice-aggregate-put-6
+    put-requires-6
     same-length
     returns
     same-length-2
@@ -88,4 +102,6 @@ put-part-spec =
     same-length-4
     returns-4
     same-length-5
-    returns-5)
+    returns-5
+    same-length-6
+    returns-6)

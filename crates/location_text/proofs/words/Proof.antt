@@ -6,7 +6,7 @@ use lib.ListN.{length}
 use Rattle.lists.specs.Table.{zeros}
 use Rattle.text.specs.Text.{written, decimal}
 use Rattle.text.proofs.Texts.{put-none, put-more}
-use Rattle.location_text.specs.Words.{recordName, partName}
+use Rattle.location_text.specs.Words.{recordName, partName, textLength}
 use Rattle.location_text.proofs.WordLaws.{words-put, no-words}
 use borrow.Author.Needs.{needs}
 use Rattle.location_text.proofs.words.Statement.{statement}
@@ -15,7 +15,7 @@ use Rattle.location_text.proofs.words.Tie as tie
 returns : tie.Need-returns
 returns c =
     let none = sym (no-words (c .before .before .args .l) (c .if1 .taken)) in
-    (ap (λ (w : List ℕ). written w (zeros 41)) none, (ap length none, omega arith))
+    (ap (λ (w : List ℕ). written w (zeros textLength)) none, (ap length none, omega arith))
 
 slice-aggregate-put-record : tie.Need-slice-aggregate-put-record
 slice-aggregate-put-record c = search needs
@@ -62,7 +62,7 @@ returns-2 c =
     let front = space .before .before .before .before in
     let tested = front .before .before in
     let l = tested .before .before .args .l in
-    let kind = put-more (recordName (l .kind)) (put-none (zeros 41)) (front .put-record .ensures .0) (front .put-record .ensures .1) in
+    let kind = put-more (recordName (l .kind)) (put-none (zeros textLength)) (front .put-record .ensures .0) (front .put-record .ensures .1) in
     let apart = put-more (32 ∷ []) kind (space .put .ensures .0) (space .put .ensures .1) in
     let inside = put-more (partName (l .part)) apart (part .put-part .ensures .0) (part .put-part .ensures .1) in
     let before = put-more (32 ∷ []) inside (behind .put2 .ensures .0) (behind .put2 .ensures .1) in

@@ -1,18 +1,18 @@
 use mathlib.Core.Path.{_≡_, sym, ap, ap₂, _∙_}
 use mathlib.Core.Bool.{Bool, true, false, _&&_}
 use denote.Ref.{now}
-use lib.Dec.{eqb}
+use lib.Dec.{eqb, leb}
 use lib.ListN.{length}
 use borrow.Author.Tests.{not-true, not-false}
 use Rattle.answers.specs.declared.Refusal.the-variants.{WrongLength}
 use Rattle.answers.specs.declared.Answer.{Answer}
-use Rattle.answers.specs.Answers.{number, unless, andThen, onDone}
+use Rattle.answers.specs.Answers.{number, unless, onDone}
 use Rattle.triples.specs.Triple.{tripleBytes}
 use Rattle.scheme.specs.Scheme.{Triple}
 use Rattle.records.specs.Records.{encapsulationAnswer}
 use Rattle.triples.specs.Triple.{tripleAnswer}
-use Rattle.keys.specs.Keys.{secretAnswer}
-use Rattle.calls.specs.Calls.{outcomeAnswer, outcomeBytes, decapsulateAnswer, decapsulateOut}
+use Rattle.secret_keys.specs.SecretKeys.{secretAnswer}
+use Rattle.calls.specs.Calls.{outcomeBytes, decapsulateAnswer, decapsulateOut}
 use Rattle.opening.specs.Parts.{decapsulatedOutcome, decapsulatedAnswer}
 use Rattle.calls.proofs.Lengths.{decapsulate-fits}
 use Rattle.opening.proofs.Laws.{triple-written}
@@ -29,7 +29,7 @@ returns c =
     let e = now (args .encapsulation) in
     let d = now (args .dummy) in
     let old = now (args .out) in
-    let misfit : eqb (length k) 4357 && eqb (length e) 4096 && eqb (length d) 768 && eqb (length old) 768 ≡ false = not-true _ (c .if1 .taken) in
+    let misfit : leb 5 (length k) && eqb (length e) 4096 && eqb (length d) 768 && eqb (length old) 768 ≡ false = not-true _ (c .if1 .taken) in
     let answer = sym (ap (λ (b : Bool). unless b WrongLength (decapsulatedAnswer k e d)) misfit) in
     let kept = ap (λ (a : Answer). onDone a (outcomeBytes (decapsulatedOutcome k e d)) old) answer in
     (answer, (kept, decapsulate-promise k e d old (ap number answer) kept))
@@ -39,7 +39,7 @@ decapsulate-records-requires c κs =
     let args = c .before .before .before .before .before .args in
     let (key, encapsulation, dummy, room) =
     decapsulate-fits (now (args .key)) (now (args .encapsulation)) (now (args .dummy)) (length (now (args .out))) .0 (not-false _ (c .if1 .left)) in
-    (key, encapsulation, dummy)
+    (encapsulation, dummy)
 
 write-triple-requires : tie.Need-write-triple-requires
 write-triple-requires c κs =
@@ -60,7 +60,7 @@ returns-2 c =
     let e = now (args .encapsulation) in
     let d = now (args .dummy) in
     let old = now (args .out) in
-    let fits : eqb (length k) 4357 && eqb (length e) 4096 && eqb (length d) 768 && eqb (length old) 768 ≡ true = not-false _ (left .if1 .left) in
+    let fits : leb 5 (length k) && eqb (length e) 4096 && eqb (length d) 768 && eqb (length old) 768 ≡ true = not-false _ (left .if1 .left) in
     let (checked, triple) = found .decapsulate-records .ensures in
     let whole = sym (ap (λ (b : Bool). unless b WrongLength (decapsulatedAnswer k e d)) fits) in
     let answer = checked ∙ whole in

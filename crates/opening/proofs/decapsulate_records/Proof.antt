@@ -22,9 +22,6 @@ slice-aggregate-read-secret-key-2 c = backward-size (c .before .before .backward
 read-secret-key-requires : tie.Need-read-secret-key-requires
 read-secret-key-requires c κs = search needs
 
-reciprocals-requires : tie.Need-reciprocals-requires
-reciprocals-requires c κs = search needs
-
 read-encapsulation-requires : tie.Need-read-encapsulation-requires
 read-encapsulation-requires c κs = search needs
 
@@ -35,10 +32,10 @@ read-triple-requires : tie.Need-read-triple-requires
 read-triple-requires c κs = search needs
 
 slice-aggregate-find-triple : tie.Need-slice-aggregate-find-triple
-slice-aggregate-find-triple c = forward-size (c .before .before .before .before .before .before .before .before .before .before .before .forward-factors .ensures)
+slice-aggregate-find-triple c = forward-size (c .before .before .before .before .before .before .before .before .before .forward-factors .ensures)
 
 slice-aggregate-find-triple-2 : tie.Need-slice-aggregate-find-triple-2
-slice-aggregate-find-triple-2 c = backward-size (c .before .before .before .before .before .before .before .before .before .before .backward-factors .ensures)
+slice-aggregate-find-triple-2 c = backward-size (c .before .before .before .before .before .before .before .before .backward-factors .ensures)
 
 find-triple-requires : tie.Need-find-triple-requires
 find-triple-requires c κs = search needs
@@ -48,14 +45,12 @@ returns c =
     let dummy = c .before .before .before in
     let codes = dummy .before in
     let words = codes .before in
-    let inverse = words .before in
-    let key = inverse .before .before in
-    let (answer, ((a, b), s)) = key .read-secret-key .ensures in
+    let key = words .before in
+    let (answer, spectra) = key .read-secret-key .ensures in
     let args = key .before .before .before .before .before .before .before .before .before .before .args in
     let (checked, elements) = words .read-encapsulation .ensures in
     let o =
-    outcome-by (key .read-secret-key .result) _ (dummy .read-triple .result) (words .read-encapsulation .result .c1) (words .read-encapsulation .result .c2) (read-sized (now (args .key))) a b s
-    (inverse .reciprocals .ensures) (dummy .read-triple .ensures) (elements .0) (elements .1) in (
+    outcome-by (key .read-secret-key .result) (dummy .read-triple .result) (words .read-encapsulation .result .c1) (words .read-encapsulation .result .c2) (read-sized (now (args .key))) spectra (dummy .read-triple .ensures) (elements .0) (elements .1) in (
       c .find-triple .ensures .0
           ∙ decapsulated-by answer checked (codes .check-triple .ensures) o,
       c .find-triple .ensures .1 ∙ ap answered o,
@@ -70,7 +65,6 @@ decapsulate-records-spec =
     slice-aggregate-read-secret-key
     slice-aggregate-read-secret-key-2
     read-secret-key-requires
-    reciprocals-requires
     read-encapsulation-requires
     check-triple-requires
     read-triple-requires

@@ -4,13 +4,13 @@ use Prim.Native.Nat.{ℕ}
 use denote.Ref.{now}
 use lib.ListN.{length}
 use mathlib.Core.Bool.{Bool, true, false, _&&_}
-use lib.Dec.{eqb}
+use lib.Dec.{eqb, leb}
 use borrow.Author.Tests.{not-true, not-false}
 use Rattle.answers.specs.declared.Refusal.the-variants.{WrongLength}
 use Rattle.answers.specs.declared.Answer.{Answer}
 use Rattle.answers.specs.Answers.{number, unless, onDone}
 use Rattle.records.specs.Records.{bodyPart, tagPart, sealedEntryAnswer}
-use Rattle.keys.specs.Keys.{secretAnswer}
+use Rattle.secret_keys.specs.SecretKeys.{secretAnswer}
 use Rattle.calls.specs.Calls.{openedEntry, openAnswer, openOut}
 use Rattle.recovery.specs.Outcomes.{openedBy}
 use Rattle.opening.specs.Parts.{openedOutcome}
@@ -32,7 +32,7 @@ returns c =
     let e = now (args .sealed) in
     let noise = now (args .noise) in
     let old = now (args .out) in
-    let misfit : eqb (length k) 4357 && eqb (length e) 4133 && eqb (length noise) 1536 && eqb (length old) 16 ≡ false = not-true _ (c .if1 .taken) in
+    let misfit : leb 5 (length k) && eqb (length e) 4133 && eqb (length noise) 1536 && eqb (length old) 16 ≡ false = not-true _ (c .if1 .taken) in
     let answer = sym (ap (λ (b : Bool). unless b WrongLength (whole k e noise)) misfit) in
     let kept = ap (λ (a : Answer). onDone a (openedEntry (openedOutcome k e noise) (bodyPart e)) old) answer in
     (answer, (kept, open-promise k e noise old (ap number answer) kept))
@@ -81,7 +81,7 @@ open-sealed-requires c κs =
     let (key, sealed, noise, room) =
     open-fits (now (args .key)) (now (args .sealed)) (now (args .noise)) (length (now (args .out))) .0 (not-false _ (left .if1 .left)) in
     let size = sealed in
-    (key, search needs, noise, search needs, search needs, search needs)
+    (search needs, noise, search needs, search needs, search needs)
 
 same-length : tie.Need-same-length
 same-length c = search needs
@@ -96,7 +96,7 @@ returns-2 c =
     let e = now (args .sealed) in
     let noise = now (args .noise) in
     let old = now (args .out) in
-    let fits : eqb (length k) 4357 && eqb (length e) 4133 && eqb (length noise) 1536 && eqb (length old) 16 ≡ true = not-false _ (left .if1 .left) in
+    let fits : leb 5 (length k) && eqb (length e) 4133 && eqb (length noise) 1536 && eqb (length old) 16 ≡ true = not-false _ (left .if1 .left) in
     let (checked, written) = opened .open-sealed .ensures in
     let answer =
     checked

@@ -5,7 +5,7 @@ use Rattle.derivation.specs.Derivation.{underKeystream}
 use Rattle.answers.specs.declared.Answer.{Answer}
 use Rattle.answers.specs.Answers.{onDone}
 use Rattle.sealed_records.specs.Front.{sealedFrontAnswer}
-use Rattle.keys.specs.Keys.{secretAnswer}
+use Rattle.secret_keys.specs.SecretKeys.{secretAnswer}
 use Rattle.calls.specs.Calls.{openedEntry}
 use Rattle.opening.specs.Parts.{openedOutcome}
 use Rattle.opening.proofs.Laws.{entry-written}

@@ -24,9 +24,6 @@ slice-aggregate-read-secret-key-2 c = backward-size (c .before .before .backward
 read-secret-key-requires : tie.Need-read-secret-key-requires
 read-secret-key-requires c κs = search needs
 
-reciprocals-requires : tie.Need-reciprocals-requires
-reciprocals-requires c κs = search needs
-
 read-sealed-requires : tie.Need-read-sealed-requires
 read-sealed-requires c κs = search needs
 
@@ -34,30 +31,28 @@ noise-triple-requires : tie.Need-noise-triple-requires
 noise-triple-requires c κs = search needs
 
 read-block-requires : tie.Need-read-block-requires
-read-block-requires c κs = c .before .before .before .before .before .before .before .before .before .before .before .before .before .before .before .before .before .pre .4
+read-block-requires c κs = c .before .before .before .before .before .before .before .before .before .before .before .before .before .before .before .pre .3
 
 slice-aggregate-recover : tie.Need-slice-aggregate-recover
-slice-aggregate-recover c = forward-size (c .before .before .before .before .before .before .before .before .before .before .before .forward-factors .ensures)
+slice-aggregate-recover c = forward-size (c .before .before .before .before .before .before .before .before .before .forward-factors .ensures)
 
 slice-aggregate-recover-2 : tie.Need-slice-aggregate-recover-2
-slice-aggregate-recover-2 c = backward-size (c .before .before .before .before .before .before .before .before .before .before .backward-factors .ensures)
+slice-aggregate-recover-2 c = backward-size (c .before .before .before .before .before .before .before .before .backward-factors .ensures)
 
 recover-requires : tie.Need-recover-requires
-recover-requires c κs = (c .before .before .before .before .before .before .before .before .before .before .before .before .before .before .before .before .before .before .before .before .pre .3, c .before .before .before .before .before .before .before .before .before .before .before .before .forward-factors .ensures, c .before .before .before .before .before .before .before .before .before .before .backward-factors .ensures)
+recover-requires c κs = (c .before .before .before .before .before .before .before .before .before .before .before .before .before .before .before .before .before .before .pre .2, c .before .before .before .before .before .before .before .before .before .before .forward-factors .ensures, c .before .before .before .before .before .before .before .before .backward-factors .ensures)
 
 returns : tie.Need-returns
 returns c =
     let block = c .before .before .before in
     let dummy = block .before in
     let read = dummy .before in
-    let inverse = read .before in
-    let key = inverse .before .before in
-    let (answer, ((a, b), s)) = key .read-secret-key .ensures in
+    let key = read .before in
+    let (answer, spectra) = key .read-secret-key .ensures in
     let args = key .before .before .before .before .before .before .before .before .before .before .before .before .before .args in
     let (checked, (c1, c2)) = read .read-sealed .ensures in
     let o =
-    outcome-by (key .read-secret-key .result) _ (dummy .noise-triple .result) (read .read-sealed .result .c1) (read .read-sealed .result .c2) (read-sized (now (args .key))) a b s
-    (inverse .reciprocals .ensures) (dummy .noise-triple .ensures) c1 c2 in (
+    outcome-by (key .read-secret-key .result) (dummy .noise-triple .result) (read .read-sealed .result .c1) (read .read-sealed .result .c2) (read-sized (now (args .key))) spectra (dummy .noise-triple .ensures) c1 c2 in (
       c .recover .ensures .0 ∙ opened-by (now (args .front) ++ now (args .body)) answer checked o (block .read-block .ensures),
       c .recover .ensures .1 ∙ ap (λ (x : Outcome). tripleKey0 (answered x)) o,
     )
@@ -71,7 +66,6 @@ recover-sealed-spec =
     slice-aggregate-read-secret-key
     slice-aggregate-read-secret-key-2
     read-secret-key-requires
-    reciprocals-requires
     read-sealed-requires
     noise-triple-requires
     read-block-requires

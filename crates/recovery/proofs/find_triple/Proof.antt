@@ -27,8 +27,8 @@ and-then-requires-3 c κs = search needs
 returns : tie.Need-returns
 returns c =
     let made = c .before .before .before .before .before in
-    let args = made .before .before .before .before .before .before .before .before .args in
-    let o = outcomeBy (args .key) (args .inverse) (args .dummy) (args .c .c1) (args .c .c2) in
+    let args = made .before .before .before .before .before .before .before .before .before .args in
+    let o = outcomeBy (args .key) (args .dummy) (args .c .c1) (args .c .c2) in
     let found = made .decapsulate .ensures in
     let last = c .before .before .before .unless .ensures ∙ ap (λ (d : Decapsulation). unless (d .found) DecapsulationFailure Done) found ∙ found-answer o in (
       c .and-then3 .ensures

@@ -1,6 +1,7 @@
 use mathlib.Core.Path.{_≡_}
 use native.Mathlib.Omega.{arith}
 use lib.ListN.{length}
+use Rattle.location_text.specs.Words.{textLength}
 use borrow.Author.Needs.{needs}
 use Rattle.worked_examples.proofs.print_location.Statement.{statement}
 use Rattle.worked_examples.proofs.print_location.Tie as tie
@@ -23,7 +24,7 @@ part-print-text-start c = search needs
 part-print-text-end : tie.Need-part-print-text-end
 part-print-text-end c =
     let words = c .before .before .before .before .before .words in
-    let size : length (words .result .bytes) ≡ 41 = search needs in
+    let size : length (words .result .bytes) ≡ textLength = search needs in
     omega (arith, size, words .ensures .1 .1)
 
 print-text-requires-2 : tie.Need-print-text-requires-2

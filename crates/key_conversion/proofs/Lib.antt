@@ -1,0 +1,2 @@
+-- What a key that is converted is known to be.
+pub mod Laws
