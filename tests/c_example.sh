@@ -48,9 +48,15 @@ open the batch: 0, 3 entries
    "lane 3, 00:48.10"
    "lane 4, 00:47.52"
    "lane 5, 00:47.90"
+expand the key: 0, 6405 bytes
+open the batch with it: 0, 3 entries
+   "lane 3, 00:48.10"
+   "lane 4, 00:47.52"
+   "lane 5, 00:47.90"
+compact it: 0, the same key
 open it without its last entry: 10, 0 entries'
 if [ "$(grep -v '^key generation: ' "$room/output")" = "$expected" ] && grep -qx 'key generation: 0' "$room/output"; then
-    echo "ok: an entry and a batch sealed, opened, and refused when damaged"
+    echo "ok: an entry and a batch sealed, opened, and refused when damaged; a key expanded and compacted"
 else
     echo "WRONG: the example printed something else"
     exit 1

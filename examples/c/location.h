@@ -29,6 +29,8 @@ static const char *part_words(uint32_t answer) {
         return "a";
     case POLKA_PART_B:
         return "b";
+    case POLKA_PART_STORED_INVERSE:
+        return "stored inverse";
     case POLKA_PART_C1:
         return "c1";
     case POLKA_PART_C2:

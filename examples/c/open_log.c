@@ -1,5 +1,5 @@
 /* Opens a log of sealed entries under one key, as a desk does when the races are over.
- * usage: open_log KEY LOG     KEY is the file of a secret key, LOG a file of sealed entries in a row
+ * usage: open_log KEY LOG     KEY is the file of a secret key, expanded or not, LOG a file of sealed entries in a row
  * Each entry has a line: its place from 1, the number, and the entry in hexadecimal digits or `-`, then where a word of it is damaged. A
  * count ends the log, and the places of refused entries by number. Answers 0 if all were opened, 1 if one was refused, 2 if there is no key
  * or no log. */
@@ -13,8 +13,9 @@
 
 /* The word for a number, as polka.h has it. A later library may know more of them. */
 static const char *word(uint32_t number) {
-    static const char *const words[] = {"done",       "misfit",     "stranger",  "other issue", "off the ring", "bad code",   "no unit",
-                                        "parted key", "dry stream", "no triple", "bad tag",     "off the ring", "wrong count"};
+    static const char *const words[] = {"done",     "misfit",       "stranger",    "other issue",     "off the ring",
+                                        "bad code", "no unit",      "parted key",  "dry stream",      "no triple",
+                                        "bad tag",  "off the ring", "wrong count", "inverse mismatch"};
     return number < sizeof words / sizeof *words ? words[number] : "unknown";
 }
 
@@ -45,10 +46,13 @@ static void fill(uint8_t *bytes, size_t length) {
 }
 
 /* One byte more than a key's tells that a file is too long. */
-static void read_key(const char *path, uint8_t key[POLKA_SECRET_KEY_LENGTH + 1]) {
+enum { KEY_ROOM = POLKA_EXPANDED_SECRET_KEY_LENGTH + 1 };
+
+/* Answers the length, which is that of its version. */
+static size_t read_key(const char *path, uint8_t key[KEY_ROOM]) {
     FILE *file = file_at(path);
     setvbuf(file, NULL, _IONBF, 0); /* no second copy of the key */
-    size_t length = fread(key, 1, POLKA_SECRET_KEY_LENGTH + 1, file);
+    size_t length = fread(key, 1, KEY_ROOM, file);
     fclose(file);
     uint32_t answer = polka_check_secret_key(key, length);
     if (answer != POLKA_DONE) {
@@ -57,13 +61,14 @@ static void read_key(const char *path, uint8_t key[POLKA_SECRET_KEY_LENGTH + 1])
         fputs("\n", stderr);
         exit(2);
     }
+    return length;
 }
 
 /* Answers the number. An entry that is cut off has a wrong length. */
-static uint8_t open_entry(const uint8_t *key, const uint8_t *sealed, size_t length, size_t place) {
+static uint8_t open_entry(const uint8_t *key, size_t key_length, const uint8_t *sealed, size_t length, size_t place) {
     uint8_t dummy[POLKA_TRIPLE_NOISE_LENGTH], entry[POLKA_ENTRY_LENGTH];
     fill(dummy, sizeof dummy);
-    uint32_t answer = polka_open(key, POLKA_SECRET_KEY_LENGTH, sealed, length, dummy, sizeof dummy, entry, sizeof entry);
+    uint32_t answer = polka_open(key, key_length, sealed, length, dummy, sizeof dummy, entry, sizeof entry);
     explicit_bzero(dummy, sizeof dummy);
     printf("%zu: %u ", place, (unsigned)polka_number(answer));
     for (size_t i = 0; answer == POLKA_DONE && i < sizeof entry; i++) {
@@ -92,11 +97,11 @@ static void print_refused(uint32_t number, const uint8_t *numbers, size_t entrie
 }
 
 int main(int count, char **paths) {
-    static uint8_t key[POLKA_SECRET_KEY_LENGTH + 1], sealed[POLKA_SEALED_ENTRY_LENGTH];
+    static uint8_t key[KEY_ROOM], sealed[POLKA_SEALED_ENTRY_LENGTH];
     if (count != 3) {
         stop("usage", "open_log KEY LOG");
     }
-    read_key(paths[1], key);
+    size_t key_length = read_key(paths[1], key);
     FILE *log = file_at(paths[2]);
     size_t entries = 0, opened = 0, length;
     uint8_t *numbers = NULL;
@@ -105,7 +110,7 @@ int main(int count, char **paths) {
         if (numbers == NULL) {
             stop(paths[2], "no memory");
         }
-        numbers[entries] = open_entry(key, sealed, length, entries + 1);
+        numbers[entries] = open_entry(key, key_length, sealed, length, entries + 1);
         opened += numbers[entries] == POLKA_DONE;
         entries++;
     }

@@ -1,5 +1,6 @@
 /* Makes a key pair from the system's random bytes, seals an entry, opens it, and shows that a changed tag is refused, and a damaged word,
- * which is named. Then it seals a heat as one batch, opens it, and shows that one entry less is refused. */
+ * which is named. Then it seals a heat as one batch, opens it, also with the expanded key, which it makes compact again, and shows that one
+ * entry less is refused. */
 #include <stdio.h>
 #include <stdlib.h>
 #include <string.h>
@@ -106,14 +107,13 @@ static uint32_t seal_batch(const uint8_t public_key[POLKA_PUBLIC_KEY_LENGTH], co
     return answer;
 }
 
-/* Prints the entries, a line each; there are none where the batch is refused. */
-static uint32_t show_batch(const char *what, const uint8_t secret_key[POLKA_SECRET_KEY_LENGTH], const uint8_t *batch, size_t length) {
+/* Opens with a key of either version and prints the entries, a line each; there are none where the batch is refused. */
+static uint32_t show_batch(const char *what, const uint8_t *secret_key, size_t key_length, const uint8_t *batch, size_t length) {
     static uint8_t entries[POLKA_BATCH_ENTRIES_LENGTH];
     uint8_t dummy[POLKA_TRIPLE_NOISE_LENGTH];
     uint32_t count = 0;
     fill(dummy, sizeof dummy);
-    uint32_t answer = polka_open_batch(secret_key, POLKA_SECRET_KEY_LENGTH, batch, length, dummy, sizeof dummy, entries, sizeof entries,
-                                       &count);
+    uint32_t answer = polka_open_batch(secret_key, key_length, batch, length, dummy, sizeof dummy, entries, sizeof entries, &count);
     explicit_bzero(dummy, sizeof dummy);
     printf("%s: %u, %u entries\n", what, (unsigned)polka_number(answer), (unsigned)count);
     for (uint32_t i = 0; i < count; i++) {
@@ -121,6 +121,24 @@ static uint32_t show_batch(const char *what, const uint8_t secret_key[POLKA_SECR
     }
     explicit_bzero(entries, sizeof entries);
     return answer;
+}
+
+/* What a desk does once with its key, and what it does for an old desk. */
+static int with_expanded_key(const uint8_t secret_key[POLKA_SECRET_KEY_LENGTH], const uint8_t *batch, size_t length) {
+    static uint8_t expanded_key[POLKA_EXPANDED_SECRET_KEY_LENGTH], compact_key[POLKA_SECRET_KEY_LENGTH];
+
+    uint32_t answer = polka_expand_secret_key(secret_key, POLKA_SECRET_KEY_LENGTH, expanded_key, sizeof expanded_key);
+    printf("expand the key: %u, %zu bytes\n", (unsigned)polka_number(answer), sizeof expanded_key);
+    int right = answer == POLKA_DONE &&
+                show_batch("open the batch with it", expanded_key, sizeof expanded_key, batch, length) == POLKA_DONE;
+    if (right) {
+        answer = polka_compact_secret_key(expanded_key, sizeof expanded_key, compact_key, sizeof compact_key);
+        right = answer == POLKA_DONE && memcmp(secret_key, compact_key, sizeof compact_key) == 0;
+        printf("compact it: %u, %s key\n", (unsigned)polka_number(answer), right ? "the same" : "another");
+    }
+    explicit_bzero(expanded_key, sizeof expanded_key);
+    explicit_bzero(compact_key, sizeof compact_key);
+    return right;
 }
 
 static int heat(const uint8_t public_key[POLKA_PUBLIC_KEY_LENGTH], const uint8_t secret_key[POLKA_SECRET_KEY_LENGTH]) {
@@ -132,14 +150,16 @@ static int heat(const uint8_t public_key[POLKA_PUBLIC_KEY_LENGTH], const uint8_t
 
     uint32_t answer = seal_batch(public_key, (const uint8_t *)entries, LANES, batch);
     printf("seal a batch of %d: %u, %zu bytes\n", LANES, (unsigned)polka_number(answer), sizeof batch);
-    if (answer != POLKA_DONE || show_batch("open the batch", secret_key, batch, sizeof batch) != POLKA_DONE) {
+    if (answer != POLKA_DONE ||
+        show_batch("open the batch", secret_key, POLKA_SECRET_KEY_LENGTH, batch, sizeof batch) != POLKA_DONE ||
+        !with_expanded_key(secret_key, batch, sizeof batch)) {
         return 0;
     }
 
     /* the count fits again, and the tag stands behind the blocks that are left: only the tag tells */
     batch[COUNT_AT] = LANES - 1;
     memmove(batch + sizeof batch - 2 * POLKA_ENTRY_LENGTH, batch + sizeof batch - POLKA_ENTRY_LENGTH, POLKA_ENTRY_LENGTH);
-    answer = show_batch("open it without its last entry", secret_key, batch, POLKA_BATCH_LENGTH(LANES - 1));
+    answer = show_batch("open it without its last entry", secret_key, POLKA_SECRET_KEY_LENGTH, batch, POLKA_BATCH_LENGTH(LANES - 1));
     return answer == POLKA_TAG_MISMATCH;
 }
 

@@ -1,6 +1,6 @@
 //! Opens a whole log under one key, as a desk does when the races are over.
-//! usage: open_log KEY [LOG]     KEY is the file of a secret key. LOG is a file of sealed entries in a row, or a folder with one in each
-//!                               file, taken in the order of their names; without it the entries come on standard input
+//! usage: open_log KEY [LOG]     KEY is the file of a secret key, expanded or not. LOG is a file of sealed entries in a row, or a folder
+//!                               with one in each file, taken in the order of their names; without it the entries come on standard input
 //! Each entry has a line: its place (from 1, or its file), the number, and the entry in hexadecimal digits or `-`, then where a word of it
 //! is damaged. A count ends the log, and the places of refused entries by number. Answers 0 if all were opened, 1 if one was refused, 2 if
 //! there is no key or no log.
@@ -11,7 +11,7 @@ use std::io::{self, Read, Write};
 use std::path::Path;
 use std::process::ExitCode;
 
-use polka::{SealedEntry, SecretKey, TripleNoise};
+use polka::{ExpandedSecretKey, SealedEntry, SecretKey, SecretRecord, TripleNoise};
 
 /// Places, and the bytes that stand there.
 type Log = Box<dyn Iterator<Item = io::Result<(String, Vec<u8>)>>>;
@@ -49,22 +49,27 @@ fn under(refusal: polka::Error) -> String {
     format!("refused under {}, {}{}", refusal.number(), refusal.word(), location(": ", refusal))
 }
 
-/// Its bytes go from the file to their one place, and are judged once.
-fn read_key(path: &Path) -> Result<SecretKey, Box<dyn Error>> {
+/// Its bytes go from the file to a place that is overwritten when it goes, and are judged once. The length tells the version.
+fn read_key(path: &Path) -> Result<Box<dyn SecretRecord>, Box<dyn Error>> {
     let mut file = File::open(path)?;
-    let key = SecretKey::filled_by(|bytes| file.read_exact(bytes)).map_err(|error| match error.kind() {
-        io::ErrorKind::UnexpectedEof => under(polka::Error::WrongLength),
-        _ => error.to_string(),
+    let mut length = 0;
+    let room = ExpandedSecretKey::filled_by(|bytes| loop {
+        match file.read(&mut bytes[length..])? {
+            0 => return io::Result::Ok(()),
+            more => length += more,
+        }
     })?;
-    if file.read(&mut [0])? > 0 {
-        return Err(under(polka::Error::WrongLength).into());
-    }
+    let key: Box<dyn SecretRecord> = match length {
+        SecretKey::LENGTH => Box::new(SecretKey::try_from(&room.as_bytes()[..length])?),
+        ExpandedSecretKey::LENGTH if file.read(&mut [0])? == 0 => Box::new(room),
+        _ => return Err(under(polka::Error::WrongLength).into()),
+    };
     polka::check_secret_key(&key).map_err(under)?;
     Ok(key)
 }
 
 /// Whether all entries were opened.
-fn open_log(key: &SecretKey, log: Log, out: &mut impl Write) -> Result<bool, Box<dyn Error>> {
+fn open_log(key: &dyn SecretRecord, log: Log, out: &mut impl Write) -> Result<bool, Box<dyn Error>> {
     let mut random = File::open("/dev/urandom")?;
     let mut opened = 0;
     // by number: its word, and the places
@@ -105,7 +110,7 @@ pub fn run(words: &[String], out: &mut impl Write) -> Result<bool, Box<dyn Error
         Some(path) if path.is_dir() => folder(path)?,
         Some(path) => stream(io::BufReader::new(File::open(path).map_err(|error| format!("{}: {error}", path.display()))?)),
     };
-    open_log(&key, log, out)
+    open_log(&*key, log, out)
 }
 
 fn main() -> ExitCode {

@@ -1,5 +1,6 @@
 //! Makes a key pair from the system's random bytes, seals an entry, opens it, and shows that a changed tag is refused, and a damaged word,
-//! which is named. Then it seals a heat as one batch, opens it, and shows that one entry less is refused.
+//! which is named. Then it seals a heat as one batch, opens it, and shows that one entry less is refused. Last it expands the key, opens an
+//! entry with that, and makes it compact again.
 use std::error::Error;
 use std::fs::File;
 use std::io::Read;
@@ -71,11 +72,28 @@ fn heat(public_key: &PublicKey, secret_key: &SecretKey, random: &mut File) -> Re
     Ok(())
 }
 
+/// What a desk does once with its key, and what it does for an old desk.
+fn expanded_key(public_key: &PublicKey, secret_key: &SecretKey, random: &mut File) -> Result<(), Box<dyn Error>> {
+    let expanded_key = polka::expand_secret_key(secret_key)?;
+    println!("expanded {secret_key:?} to {expanded_key:?}");
+
+    let sealed = polka::seal(public_key, noise(random)?, &Entry::from(b"lane 4, 00:47.52"))?;
+    println!("opened \"{}\" with it", text(&polka::open(&expanded_key, &sealed, noise(random)?)?));
+
+    let compact = polka::compact_secret_key(&expanded_key)?;
+    if compact.as_bytes() != secret_key.as_bytes() {
+        return Err("another key came back".into());
+    }
+    println!("compact again: {compact:?}, the same");
+    Ok(())
+}
+
 fn main() -> Result<(), Box<dyn Error>> {
     let mut random = File::open("/dev/urandom")?;
     let (public_key, secret_key) = make_key(&mut random)?;
     polka::check_secret_key(&secret_key)?;
     println!("made {public_key:?} and {secret_key:?}");
     one_entry(&public_key, &secret_key, &mut random)?;
-    heat(&public_key, &secret_key, &mut random)
+    heat(&public_key, &secret_key, &mut random)?;
+    expanded_key(&public_key, &secret_key, &mut random)
 }

@@ -4,7 +4,7 @@ use core::fmt;
 use crate::location::Location;
 
 /// Why a call refused. Nothing is returned beside it. Document 01, the buyer's scope, gives each refusal a number and a word, and each
-/// call the order in which it looks for them; document 02, the buyer's change requests, adds 11 and 12, and a [`Location`] to 4 and 11.
+/// call the order in which it looks for them; document 02, the buyer's change requests, adds 11 to 13, and a [`Location`] to 4 and 11.
 ///
 /// Since 0.4 two cases carry a location. `CoefficientOutOfRange` is [`KeyOutOfRange`](Error::KeyOutOfRange) or
 /// [`EncapsulationOutOfRange`](Error::EncapsulationOutOfRange), and there is no list `ALL` and no `from_number` any more, since a number
@@ -16,7 +16,7 @@ pub enum Error {
     WrongLength,
     /// 2, stranger: the mark is another.
     WrongMark,
-    /// 3, other issue: the version is not that of the record, which is 2 in a batch and 1 in every other.
+    /// 3, other issue: the version is none of the record, which is 2 in a batch, 1 or 2 in a secret key, and 1 in every other.
     WrongVersion,
     /// 4, off the ring: a word of a key is 59,393 or more.
     KeyOutOfRange(Location),
@@ -36,6 +36,8 @@ pub enum Error {
     EncapsulationOutOfRange(Location),
     /// 12, wrong count: a batch is of 1 to 255 entries.
     WrongCount,
+    /// 13, inverse mismatch: in an expanded secret key b times the stored inverse is not 1.
+    InverseMismatch,
     /// A code that this version does not know. The archive that it was made for gives none; a later one may.
     Unknown(u32),
 }
@@ -64,6 +66,7 @@ impl Error {
             9 => Some(Error::DecapsulationFailure),
             10 => Some(Error::TagMismatch),
             12 => Some(Error::WrongCount),
+            13 => Some(Error::InverseMismatch),
             _ => Some(Error::located(code).unwrap_or(Error::Unknown(code))),
         }
     }
@@ -93,6 +96,7 @@ impl Error {
             Error::TagMismatch => 10,
             Error::EncapsulationOutOfRange(_) => 11,
             Error::WrongCount => 12,
+            Error::InverseMismatch => 13,
             Error::Unknown(code) => number(code),
         }
     }
@@ -105,7 +109,7 @@ impl Error {
         }
     }
 
-    /// Document 01's word. Document 02 has none: 11 has that of 4, and 12 is called by its name.
+    /// Document 01's word. Document 02 has none: 11 has that of 4, and 12 and 13 are called by their names.
     pub fn word(self) -> &'static str {
         match self {
             Error::WrongLength => "misfit",
@@ -119,6 +123,7 @@ impl Error {
             Error::DecapsulationFailure => "no triple",
             Error::TagMismatch => "bad tag",
             Error::WrongCount => "wrong count",
+            Error::InverseMismatch => "inverse mismatch",
             Error::Unknown(_) => "unknown",
         }
     }
@@ -138,6 +143,7 @@ impl Error {
             Error::TagMismatch => "the tag is not that of the body",
             Error::EncapsulationOutOfRange(_) => "a coefficient of the encapsulation is 59,393 or more",
             Error::WrongCount => "the batch has not 1 to 255 entries",
+            Error::InverseMismatch => "the stored inverse is not that of b of the key",
             Error::Unknown(_) => "the archive gave an answer that this package does not know",
         }
     }

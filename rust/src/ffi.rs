@@ -32,6 +32,18 @@ mod archive {
             secret_key_length: usize,
         ) -> u32;
         pub fn polka_check_secret_key(secret_key: *const u8, secret_key_length: usize) -> u32;
+        pub fn polka_expand_secret_key(
+            secret_key: *const u8,
+            secret_key_length: usize,
+            expanded_key: *mut u8,
+            expanded_key_length: usize,
+        ) -> u32;
+        pub fn polka_compact_secret_key(
+            expanded_key: *const u8,
+            expanded_key_length: usize,
+            secret_key: *mut u8,
+            secret_key_length: usize,
+        ) -> u32;
         pub fn polka_encapsulate(
             public_key: *const u8,
             public_key_length: usize,
@@ -135,6 +147,14 @@ pub fn keygen_from_seed(seed: &[u8], noise_s: &[u8], noise_e: &[u8], public_key:
 
 pub fn check_secret_key(secret_key: &[u8]) -> u32 {
     unsafe { archive::polka_check_secret_key(secret_key.as_ptr(), secret_key.len()) }
+}
+
+pub fn expand_secret_key(secret_key: &[u8], expanded_key: &mut [u8]) -> u32 {
+    unsafe { archive::polka_expand_secret_key(secret_key.as_ptr(), secret_key.len(), expanded_key.as_mut_ptr(), expanded_key.len()) }
+}
+
+pub fn compact_secret_key(expanded_key: &[u8], secret_key: &mut [u8]) -> u32 {
+    unsafe { archive::polka_compact_secret_key(expanded_key.as_ptr(), expanded_key.len(), secret_key.as_mut_ptr(), secret_key.len()) }
 }
 
 pub fn encapsulate(public_key: &[u8], triple: &[u8], encapsulation: &mut [u8]) -> u32 {

@@ -2,9 +2,10 @@
 //!
 //! A desk makes a key pair ([`keygen`], or [`keygen_from_seed`] for a public key half as long); a console seals 16-byte entries under the
 //! public key ([`seal`]); the desk opens them ([`open`]). A batch has up to 255 entries under one encapsulation ([`seal_batch`],
-//! [`open_batch`]). [`encapsulate`] and [`decapsulate`] are the scheme without an entry. Every call judges the records that it is lent, in
-//! the order that documents 01 and 02, the buyer's scope and change requests, fix, and answers [`Error`] at the first fault. Where that is a
-//! word off the ring, it has a [`Location`]: which record is damaged, and where.
+//! [`open_batch`]). [`encapsulate`] and [`decapsulate`] are the scheme without an entry. A desk may keep its key expanded, with the inverse
+//! of b, which then need not be found at each opening ([`expand_secret_key`], [`compact_secret_key`]). Every call judges the records that it
+//! is lent, in the order that documents 01 and 02, the buyer's scope and change requests, fix, and answers [`Error`] at the first fault.
+//! Where that is a word off the ring, it has a [`Location`]: which record is damaged, and where.
 //!
 //! The library draws no random bytes. Streams, seeds and noise come from the caller and must be uniform and new each time. Noise is secret
 //! too: it is taken by value and cannot be copied, so that none is used twice by accident.
@@ -72,8 +73,8 @@ use records::Entries;
 pub use error::Error;
 pub use location::{Location, Part, Record};
 pub use records::{
-    Encapsulation, Entry, KeyNoise, PublicKey, PublicRecord, SealedBatch, SealedEntry, SecretKey, Seed, SeededPublicKey, Triple,
-    TripleNoise, UniformStream,
+    Encapsulation, Entry, ExpandedSecretKey, KeyNoise, PublicKey, PublicRecord, SealedBatch, SealedEntry, SecretKey, SecretRecord, Seed,
+    SeededPublicKey, Triple, TripleNoise, UniformStream,
 };
 
 /// Makes a key pair. It tries once: [`Error::StreamExhausted`] and [`Error::NotInvertible`] call for new bytes.
@@ -131,9 +132,53 @@ pub fn keygen_from_seed(seed: &Seed, noise_s: KeyNoise, noise_e: KeyNoise) -> Re
     Ok((public_key, secret_key))
 }
 
-/// Whether a secret key is sound: b is a unit, and 5 × (a × s + e) for some ternary e.
-pub fn check_secret_key(secret_key: &SecretKey) -> Result<(), Error> {
-    Error::judge(ffi::check_secret_key(secret_key.as_bytes()))
+/// Whether a secret key of either version is sound: b is a unit, and 5 × (a × s + e) for some ternary e; and the inverse that is stored is
+/// that of b.
+pub fn check_secret_key(secret_key: &(impl SecretRecord + ?Sized)) -> Result<(), Error> {
+    Error::judge(ffi::check_secret_key(secret_key.as_slice()))
+}
+
+/// The expanded form of a sound secret key: the same a, b and s, and the inverse of b. It answers as the other does.
+///
+/// ```
+/// use std::fs::File;
+/// use std::io::Read;
+///
+/// use polka::{Entry, Error, KeyNoise, Seed, TripleNoise};
+///
+/// let mut random = File::open("/dev/urandom")?;
+/// let (public_key, secret_key) = loop {
+///     let seed = Seed::filled_by(|bytes| random.read_exact(bytes))?;
+///     let noise_s = KeyNoise::filled_by(|bytes| random.read_exact(bytes))?;
+///     let noise_e = KeyNoise::filled_by(|bytes| random.read_exact(bytes))?;
+///     match polka::keygen_from_seed(&seed, noise_s, noise_e) {
+///         Err(Error::NotInvertible | Error::StreamExhausted) => continue,
+///         answer => break answer?,
+///     }
+/// };
+///
+/// // The desk converts its key once, and opens with it.
+/// let expanded_key = polka::expand_secret_key(&secret_key)?;
+/// let noise = TripleNoise::filled_by(|bytes| random.read_exact(bytes))?;
+/// let sealed = polka::seal(&public_key, noise, &Entry::from(b"lane 4, 00:47.52"))?;
+/// let dummy = TripleNoise::filled_by(|bytes| random.read_exact(bytes))?;
+/// assert_eq!(polka::open(&expanded_key, &sealed, dummy)?.as_bytes(), b"lane 4, 00:47.52");
+///
+/// // For an old desk it is made shorter again.
+/// assert_eq!(polka::compact_secret_key(&expanded_key)?.as_bytes(), secret_key.as_bytes());
+/// # Ok::<(), Box<dyn std::error::Error>>(())
+/// ```
+pub fn expand_secret_key(secret_key: &SecretKey) -> Result<ExpandedSecretKey, Error> {
+    let mut expanded_key = ExpandedSecretKey::zeros();
+    Error::judge(ffi::expand_secret_key(secret_key.as_bytes(), expanded_key.as_mut_bytes()))?;
+    Ok(expanded_key)
+}
+
+/// The secret key of which a sound expanded one was made, for desks that know no other.
+pub fn compact_secret_key(expanded_key: &ExpandedSecretKey) -> Result<SecretKey, Error> {
+    let mut secret_key = SecretKey::zeros();
+    Error::judge(ffi::compact_secret_key(expanded_key.as_bytes(), secret_key.as_mut_bytes()))?;
+    Ok(secret_key)
 }
 
 /// The encapsulation of a triple under a public key of either record. Document 01 calls this capsule making.
@@ -143,10 +188,11 @@ pub fn encapsulate(public_key: &(impl PublicRecord + ?Sized), triple: &Triple) -
     Ok(encapsulation)
 }
 
-/// The triple of an encapsulation. The dummy has no part in the answer. Document 01 calls this bare opening.
-pub fn decapsulate(secret_key: &SecretKey, encapsulation: &Encapsulation, dummy: Triple) -> Result<Triple, Error> {
+/// The triple of an encapsulation, with a secret key of either version. The dummy has no part in the answer. Document 01 calls this bare
+/// opening.
+pub fn decapsulate(secret_key: &(impl SecretRecord + ?Sized), encapsulation: &Encapsulation, dummy: Triple) -> Result<Triple, Error> {
     let mut triple = Triple::zeros();
-    Error::judge(ffi::decapsulate(secret_key.as_bytes(), encapsulation.as_bytes(), dummy.as_bytes(), triple.as_mut_bytes()))?;
+    Error::judge(ffi::decapsulate(secret_key.as_slice(), encapsulation.as_bytes(), dummy.as_bytes(), triple.as_mut_bytes()))?;
     Ok(triple)
 }
 
@@ -167,10 +213,10 @@ pub fn seal(public_key: &(impl PublicRecord + ?Sized), noise: TripleNoise, entry
     Ok(sealed)
 }
 
-/// Opens a sealed entry. The dummy noise has no part in the answer.
-pub fn open(secret_key: &SecretKey, sealed: &SealedEntry, dummy_noise: TripleNoise) -> Result<Entry, Error> {
+/// Opens a sealed entry with a secret key of either version. The dummy noise has no part in the answer.
+pub fn open(secret_key: &(impl SecretRecord + ?Sized), sealed: &SealedEntry, dummy_noise: TripleNoise) -> Result<Entry, Error> {
     let mut entry = Entry::zeros();
-    Error::judge(ffi::open(secret_key.as_bytes(), sealed.as_bytes(), dummy_noise.as_bytes(), entry.as_mut_bytes()))?;
+    Error::judge(ffi::open(secret_key.as_slice(), sealed.as_bytes(), dummy_noise.as_bytes(), entry.as_mut_bytes()))?;
     Ok(entry)
 }
 
@@ -215,8 +261,9 @@ pub fn seal_batch(public_key: &(impl PublicRecord + ?Sized), noise: TripleNoise,
     Ok(batch)
 }
 
-/// Opens a batch: all entries in their order, or none. A batch that was read is lent as its bytes, of whatever length. The dummy noise has
-/// no part in the answer. A sealed entry is no batch, not even of one: it is answered [`Error::WrongVersion`].
+/// Opens a batch with a secret key of either version: all entries in their order, or none. A batch that was read is lent as its bytes, of
+/// whatever length. The dummy noise has no part in the answer. A sealed entry is no batch, not even of one: it is answered
+/// [`Error::WrongVersion`].
 ///
 /// ```
 /// use polka::{Error, SecretKey, TripleNoise};
@@ -225,10 +272,14 @@ pub fn seal_batch(public_key: &(impl PublicRecord + ?Sized), noise: TripleNoise,
 ///     Ok(*polka::open_batch(secret_key, read, dummy)?[0].as_bytes())
 /// }
 /// ```
-pub fn open_batch(secret_key: &SecretKey, batch: &(impl AsRef<[u8]> + ?Sized), dummy_noise: TripleNoise) -> Result<Vec<Entry>, Error> {
+pub fn open_batch(
+    secret_key: &(impl SecretRecord + ?Sized),
+    batch: &(impl AsRef<[u8]> + ?Sized),
+    dummy_noise: TripleNoise,
+) -> Result<Vec<Entry>, Error> {
     let mut entries = Entries::zeros(SealedBatch::MOST_ENTRIES);
     let mut count = 0;
-    Error::judge(ffi::open_batch(secret_key.as_bytes(), batch.as_ref(), dummy_noise.as_bytes(), entries.as_mut_bytes(), &mut count))?;
+    Error::judge(ffi::open_batch(secret_key.as_slice(), batch.as_ref(), dummy_noise.as_bytes(), entries.as_mut_bytes(), &mut count))?;
     entries.first(count as usize)
 }
 

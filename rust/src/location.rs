@@ -2,7 +2,7 @@
 use core::fmt;
 
 /// Where a word is off the ring: its record, its part of that record, and its index there. It is the first bad one in the record's order,
-/// a before b and c1 before c2. A key is judged before what is opened with it, so the key is named where both have one.
+/// a before b, b before its stored inverse, and c1 before c2. A key is judged before what is opened with it, so the key is named where both have one.
 ///
 /// It reads as `sealed entry, c2, word 17`.
 #[derive(Clone, Copy, PartialEq, Eq, Hash, Debug)]
@@ -53,7 +53,7 @@ pub enum Record {
     PublicKey,
     /// A [`SeededPublicKey`](crate::SeededPublicKey), of b.
     SeededPublicKey,
-    /// A [`SecretKey`](crate::SecretKey), of a and b.
+    /// A [`SecretKey`](crate::SecretKey), of a and b, or an [`ExpandedSecretKey`](crate::ExpandedSecretKey), of these and the inverse of b.
     SecretKey,
     /// A [`SealedEntry`](crate::SealedEntry) or a [`SealedBatch`](crate::SealedBatch), of c1 and c2.
     SealedEntry,
@@ -94,6 +94,8 @@ pub enum Part {
     A,
     /// b of a key.
     B,
+    /// The inverse of b in an expanded secret key.
+    StoredInverse,
     /// c1 of an encapsulation, bare or in a sealed entry or batch.
     C1,
     /// c2 of an encapsulation, bare or in a sealed entry or batch.
@@ -105,6 +107,7 @@ impl Part {
         match code {
             1 => Some(Part::A),
             2 => Some(Part::B),
+            3 => Some(Part::StoredInverse),
             4 => Some(Part::C1),
             5 => Some(Part::C2),
             _ => None,
@@ -117,6 +120,7 @@ impl fmt::Display for Part {
         f.write_str(match self {
             Part::A => "a",
             Part::B => "b",
+            Part::StoredInverse => "stored inverse",
             Part::C1 => "c1",
             Part::C2 => "c2",
         })

@@ -4,6 +4,7 @@ use alloc::boxed::Box;
 use alloc::vec;
 use alloc::vec::Vec;
 use core::fmt;
+use core::ops::Deref;
 
 use crate::error::Error;
 use crate::ffi;
@@ -146,8 +147,13 @@ public_bytes! {
     Seed, 32
 }
 secret_bytes! {
-    /// A secret key: "SDK", version, a, b, s. Document 01 calls it a desk key.
+    /// A secret key: "SDK", version 1, a, b, s. Document 01 calls it a desk key.
     SecretKey, 4357
+}
+secret_bytes! {
+    /// An expanded secret key, which carries the inverse of b: "SDK", version 2, a, b, s, inverse of b.
+    /// [`expand_secret_key`](crate::expand_secret_key) makes it of a [`SecretKey`].
+    ExpandedSecretKey, 6405
 }
 secret_bytes! {
     /// What is encapsulated: r, e1, e2, two bits a coefficient.
@@ -277,11 +283,43 @@ impl PublicRecord for SeededPublicKey {
     }
 }
 
-/// Keeps the trait to these two types: a length of neither record cannot be lent.
+/// A secret key as one of its two versions, [`SecretKey`] or [`ExpandedSecretKey`]. [`check_secret_key`](crate::check_secret_key),
+/// [`decapsulate`](crate::decapsulate), [`open`](crate::open) and [`open_batch`](crate::open_batch) take either, also as a
+/// `dyn SecretRecord`, and answer the same under both where a, b and s are those of a sound key.
+///
+/// What points to a key, like `Arc<SecretKey>`, is lent in its place.
+pub trait SecretRecord: sealed::Sealed {
+    /// Its bytes; their count is that of the version.
+    fn as_slice(&self) -> &[u8];
+}
+
+impl SecretRecord for SecretKey {
+    fn as_slice(&self) -> &[u8] {
+        self.as_bytes()
+    }
+}
+
+impl SecretRecord for ExpandedSecretKey {
+    fn as_slice(&self) -> &[u8] {
+        self.as_bytes()
+    }
+}
+
+// Where a call takes one type, a reference to a pointer to it becomes one to the type. It does not where the type is left open.
+impl<P: Deref<Target: SecretRecord>> SecretRecord for P {
+    fn as_slice(&self) -> &[u8] {
+        (**self).as_slice()
+    }
+}
+
+/// Keeps each trait to its two types: a length of neither record cannot be lent.
 mod sealed {
     pub trait Sealed {}
     impl Sealed for super::PublicKey {}
     impl Sealed for super::SeededPublicKey {}
+    impl Sealed for super::SecretKey {}
+    impl Sealed for super::ExpandedSecretKey {}
+    impl<P: core::ops::Deref<Target: Sealed>> Sealed for P {}
 }
 
 #[cfg(test)]

@@ -6,7 +6,7 @@ use std::io::Write;
 use std::path::PathBuf;
 use std::process::{Command, Stdio};
 
-use common::cases::{Count, REFERENCE};
+use common::cases::{run, Count, REFERENCE};
 use common::damage::{self, Sound};
 use common::random::Random;
 use common::vectors;
@@ -59,10 +59,43 @@ fn beside_the_reference() {
             1 => input.truncate(random.below(10_026)),
             2 => input.extend(random.bytes(1 + turn * 100)),
             3 => input.push(0),
-            4 => input.rotate_left(1 + random.below(10_025)),
+            4 => {
+                let by = 1 + random.below(input.len() - 1);
+                input.rotate_left(by);
+            }
             _ => {}
         }
         count.agree(&case.name, printed(&input) == vectors::desk_line(&REFERENCE, &input).1);
     }
+    count.finish();
+}
+
+/// The desk keeps version 1: at its length every other version is 3, and a key of version 2 with all that belongs to it is too long.
+#[test]
+#[ignore = "needs target/bin/desk"]
+fn other_versions_of_the_key() {
+    let mut random = Random::new(502);
+    let mut count = Count::new("desk program, keys of other versions");
+    let sound = Sound::new(&mut random);
+    let expanded = run(&REFERENCE, &sound.expand_secret_key).outputs.remove(0);
+    let input = sound.open.inputs.concat();
+    let long = [&expanded[..], &sound.open.inputs[1], &sound.open.inputs[2]].concat();
+    let mut agree = |name: &str, input: &[u8], line: &str| {
+        assert_eq!(vectors::desk_line(&REFERENCE, input).1, line, "{name}: the reference");
+        count.agree(name, printed(input) == line);
+    };
+    for version in [0u16, 2, 3, 255, 256, 257, 258, 512, 65_535] {
+        let mut other = input.clone();
+        other[3..5].copy_from_slice(&version.to_le_bytes());
+        agree(&format!("version {version}"), &other, "3 -\n");
+        // the mark is told first, and the version before a bad word
+        other[5..7].fill(0xff);
+        agree(&format!("version {version}, a bad word"), &other, "3 -\n");
+        other[0] = b's';
+        agree(&format!("version {version}, mark"), &other, "2 -\n");
+    }
+    agree("an expanded key at its whole length", &long, "1 -\n");
+    agree("an expanded key, cut to the desk's length", &long[..10_026], "3 -\n");
+    agree("an expanded key without its inverse", &[&expanded[..4357], &input[4357..]].concat(), "3 -\n");
     count.finish();
 }

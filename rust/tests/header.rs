@@ -8,8 +8,8 @@ use std::process::Command;
 
 use common::random::Random;
 use polka::{
-    Encapsulation, Entry, Error, KeyNoise, Part, PublicKey, Record, SealedBatch, SealedEntry, SecretKey, Seed, SeededPublicKey, Triple,
-    TripleNoise, UniformStream,
+    Encapsulation, Entry, Error, ExpandedSecretKey, KeyNoise, Part, PublicKey, Record, SealedBatch, SealedEntry, SecretKey, Seed,
+    SeededPublicKey, Triple, TripleNoise, UniformStream,
 };
 
 const HEADER: &str = include_str!("../../include/polka.h");
@@ -31,6 +31,7 @@ fn lengths() {
         ("PUBLIC_KEY", PublicKey::LENGTH),
         ("SEEDED_PUBLIC_KEY", SeededPublicKey::LENGTH),
         ("SECRET_KEY", SecretKey::LENGTH),
+        ("EXPANDED_SECRET_KEY", ExpandedSecretKey::LENGTH),
         ("SEALED_ENTRY", SealedEntry::LENGTH),
         ("ENCAPSULATION", Encapsulation::LENGTH),
         ("TRIPLE", Triple::LENGTH),
@@ -69,7 +70,7 @@ fn named(prefix: &str) -> usize {
 }
 
 const RECORDS: [Record; 5] = [Record::PublicKey, Record::SeededPublicKey, Record::SecretKey, Record::SealedEntry, Record::Encapsulation];
-const PARTS: [Part; 4] = [Part::A, Part::B, Part::C1, Part::C2];
+const PARTS: [Part; 5] = [Part::A, Part::B, Part::StoredInverse, Part::C1, Part::C2];
 
 /// The code of a bad word, by the bits that the header states.
 fn located(number: u32, record: u32, part: u32, index: u32) -> u32 {
@@ -79,7 +80,7 @@ fn located(number: u32, record: u32, part: u32, index: u32) -> u32 {
 #[test]
 fn numbers_and_words() {
     assert_eq!(value("POLKA_DONE"), "0");
-    for number in 1..=12 {
+    for number in 1..=13 {
         // 4 and 11 come with a bad word
         let code = if [4, 11].contains(&number) { located(number, 1, 1, 0) } else { number };
         let error = Error::from_code(code).unwrap();
@@ -87,7 +88,7 @@ fn numbers_and_words() {
         assert_eq!(c_value("", &error), number);
         assert!(HEADER.contains(&format!("/* {}: ", error.word())), "{}", error.word());
     }
-    assert_eq!(named("POLKA_") - named("POLKA_RECORD_") - named("POLKA_PART_"), 13);
+    assert_eq!(named("POLKA_") - named("POLKA_RECORD_") - named("POLKA_PART_"), 14);
 }
 
 /// Every record with every part, at both ends of the index.
@@ -163,7 +164,7 @@ fn printed(name: &str, text: &str, numbers: &[u32]) -> String {
 #[test]
 fn fields_of_a_code() {
     let mut random = Random::new(701);
-    let codes: Vec<u32> = (0..=12).chain(located_codes()).chain((0..1000).map(|_| random.next() as u32)).collect();
+    let codes: Vec<u32> = (0..=13).chain(located_codes()).chain((0..1000).map(|_| random.next() as u32)).collect();
     let line = |code: &u32| format!("{} {} {} {} {}\n", code & 0xff, code >> 12 & 0xf, code >> 8 & 0xf, code >> 16 & 0xfff, code >> 28);
     assert_eq!(printed("fields", FIELDS_OF_CODES, &codes), codes.iter().map(line).collect::<String>());
 }

@@ -4,7 +4,7 @@ mod common;
 mod library;
 
 use common::answers;
-use common::cases::{run, Case, Count, REFERENCE};
+use common::cases::{run, Case, Count, Outcome, REFERENCE};
 use common::damage::{self, Damage, Sound};
 use common::random::Random;
 use library::LIBRARY;
@@ -50,6 +50,21 @@ fn check_secret_key() {
 }
 
 #[test]
+fn check_secret_key_expanded() {
+    each_alone("damaged, check_secret_key on an expanded key", |sound| &sound.check_secret_key_expanded, 116);
+}
+
+#[test]
+fn expand_secret_key() {
+    each_alone("damaged, expand_secret_key", |sound| &sound.expand_secret_key, 117);
+}
+
+#[test]
+fn compact_secret_key() {
+    each_alone("damaged, compact_secret_key", |sound| &sound.compact_secret_key, 118);
+}
+
+#[test]
 fn encapsulate() {
     each_alone("damaged, encapsulate", |sound| &sound.encapsulate, 103);
 }
@@ -65,6 +80,11 @@ fn decapsulate() {
 }
 
 #[test]
+fn decapsulate_expanded() {
+    each_alone("damaged, decapsulate with an expanded key", |sound| &sound.decapsulate_expanded, 119);
+}
+
+#[test]
 fn seal() {
     each_alone("damaged, seal", |sound| &sound.seal, 105);
 }
@@ -77,6 +97,11 @@ fn seal_seeded() {
 #[test]
 fn open() {
     each_alone("damaged, open", |sound| &sound.open, 106);
+}
+
+#[test]
+fn open_expanded() {
+    each_alone("damaged, open with an expanded key", |sound| &sound.open_expanded, 120);
 }
 
 /// Few and many entries, with both ends.
@@ -97,23 +122,100 @@ fn open_batch() {
     each_alone_of("damaged, open_batch", &SIZES, |sound| &sound.open_batch, 113);
 }
 
-/// Every two checks of the calls on batches, and each with all that come after it: the first one is told.
+#[test]
+fn open_batch_expanded() {
+    each_alone_of("damaged, open_batch with an expanded key", &SIZES, |sound| &sound.open_batch_expanded, 121);
+}
+
+/// Every two checks of a call, and each with all that come after it: the first one is told.
+fn in_order(count: &mut Count, case: &Case) {
+    let faults = damage::in_order(case);
+    for (i, first) in faults.iter().enumerate() {
+        let later = &faults[i + 1..];
+        compare(count, &first.apply(case), first.code);
+        for second in later {
+            compare(count, &second.apply(&first.apply(case)), first.code);
+            compare(count, &first.apply(&second.apply(case)), first.code);
+        }
+        compare(count, &later.iter().fold(first.apply(case), |case, fault| fault.apply(&case)), first.code);
+    }
+}
+
 #[test]
 fn order_of_checks() {
     let mut random = Random::new(114);
     let mut count = Count::new("damaged, the order of checks on batches");
     for entries in SIZES {
         let sound = Sound::with_entries(&mut random, entries);
-        for case in [&sound.seal_batch, &sound.seal_batch_seeded, &sound.open_batch] {
-            let faults = damage::in_order(case);
-            for (i, first) in faults.iter().enumerate() {
-                let later = &faults[i + 1..];
-                compare(&mut count, &first.apply(case), first.code);
-                for second in later {
-                    compare(&mut count, &second.apply(&first.apply(case)), first.code);
-                    compare(&mut count, &first.apply(&second.apply(case)), first.code);
-                }
-                compare(&mut count, &later.iter().fold(first.apply(case), |case, fault| fault.apply(&case)), first.code);
+        for case in [&sound.seal_batch, &sound.seal_batch_seeded, &sound.open_batch, &sound.open_batch_expanded] {
+            in_order(&mut count, case);
+        }
+    }
+    count.finish();
+}
+
+#[test]
+fn order_of_checks_on_secret_keys() {
+    let mut random = Random::new(122);
+    let mut count = Count::new("damaged, the order of checks on secret keys");
+    for _ in 0..2 {
+        let sound = Sound::new(&mut random);
+        for case in [
+            &sound.check_secret_key,
+            &sound.check_secret_key_expanded,
+            &sound.expand_secret_key,
+            &sound.compact_secret_key,
+            &sound.decapsulate,
+            &sound.decapsulate_expanded,
+            &sound.open,
+            &sound.open_expanded,
+        ] {
+            in_order(&mut count, case);
+        }
+    }
+    count.finish();
+}
+
+/// At each root of X^1024 + 1 alone b is 0, or the stored inverse another: compared with the number alone.
+#[test]
+fn every_root() {
+    let mut random = Random::new(124);
+    let mut count = Count::new("damaged, every root");
+    let sound = Sound::new(&mut random);
+    for case in [
+        &sound.check_secret_key,
+        &sound.check_secret_key_expanded,
+        &sound.expand_secret_key,
+        &sound.compact_secret_key,
+        &sound.decapsulate_expanded,
+        &sound.open_expanded,
+        &sound.open_batch_expanded,
+    ] {
+        for damage in damage::every_root(case) {
+            let actual = run(&LIBRARY, &damage.apply(case));
+            count.add(&damage.name, &Outcome { code: damage.code.unwrap(), ..actual.clone() }, &actual);
+        }
+    }
+    count.finish();
+}
+
+/// Each conversion takes one version: what it has made, it refuses.
+#[test]
+fn the_other_version() {
+    let mut random = Random::new(123);
+    let mut count = Count::new("damaged, a key that is converted already");
+    for _ in 0..4 {
+        let sound = Sound::new(&mut random);
+        let (plain, expanded) = (&sound.expand_secret_key, &sound.compact_secret_key);
+        for (case, key) in [(plain, &expanded.inputs[0]), (expanded, &plain.inputs[0])] {
+            for output in [4357, 6405] {
+                let mut case = case.clone();
+                // an output that is too short or too long is told first
+                let code = if case.outputs[0] == output { 3 } else { 1 };
+                case.name = format!("{}, {} bytes, output {output}", case.name, key.len());
+                case.inputs[0].clone_from(key);
+                case.outputs[0] = output;
+                compare(&mut count, &case, Some(code));
             }
         }
     }

@@ -3,7 +3,11 @@ mod common;
 
 use common::cases::Count;
 use common::random::Random;
-use polka::{Entry, Error, KeyNoise, PublicKey, SealedBatch, SecretKey, SeededPublicKey, Triple, TripleNoise, UniformStream};
+use common::reference;
+use polka::{
+    Encapsulation, Entry, Error, ExpandedSecretKey, KeyNoise, PublicKey, SealedBatch, SealedEntry, SecretKey, SecretRecord,
+    SeededPublicKey, Triple, TripleNoise, UniformStream,
+};
 
 /// A key pair, and how many tries were refused before it.
 fn new_key(random: &mut Random) -> (PublicKey, SecretKey, usize) {
@@ -175,6 +179,88 @@ fn batches_and_entries_of_one_sealing() {
         tags.sort();
         tags.dedup();
         count.agree(&format!("key {key}, tags"), tags.len() == all.len() + 1);
+    }
+    count.finish();
+}
+
+/// From each version to the other and back: the first bytes. The record is what a, b, s and the inverse of b make it.
+#[test]
+fn conversions() {
+    let mut random = Random::new(207);
+    let mut count = Count::new("round trips, secret keys expanded and compacted");
+    for key in 0..500 {
+        let (_, secret_key, _) = new_key(&mut random);
+        let expanded_key = polka::expand_secret_key(&secret_key).unwrap();
+        let compact_key = polka::compact_secret_key(&expanded_key).unwrap();
+        let once_more = polka::expand_secret_key(&compact_key).unwrap();
+        let (front, inverse) = expanded_key.as_bytes().split_at(SecretKey::LENGTH);
+        let b = element(&secret_key.as_bytes()[2053..4101]);
+        let one: reference::Element = (0..reference::N).map(|i| u32::from(i == 0)).collect();
+        let right = compact_key.as_bytes() == secret_key.as_bytes()
+            && once_more.as_bytes() == expanded_key.as_bytes()
+            && *front == *[&b"SDK\x02\x00"[..], &secret_key.as_bytes()[5..]].concat()
+            && reference::product(&b, &element(inverse)) == one
+            && polka::check_secret_key(&expanded_key).is_ok();
+        count.agree(&format!("key {key}"), right);
+    }
+    count.finish();
+}
+
+fn element(bytes: &[u8]) -> reference::Element {
+    bytes.chunks(2).map(|pair| u32::from(u16::from_le_bytes([pair[0], pair[1]]))).collect()
+}
+
+/// Of an entry, a batch and an encapsulation.
+type Answers = (Result<[u8; 16], Error>, Result<Vec<[u8; 16]>, Error>, Result<[u8; 768], Error>);
+
+/// What the three openings answer with this key, each under a dummy of its own.
+fn answers(key: &dyn SecretRecord, (sealed, batch, encapsulation): (&SealedEntry, &[u8], &Encapsulation), random: &mut Random) -> Answers {
+    (
+        polka::open(key, sealed, noise(random)).map(|entry| *entry.as_bytes()),
+        polka::open_batch(key, batch, noise(random)).map(|all| all.iter().map(|entry| *entry.as_bytes()).collect()),
+        polka::decapsulate(key, encapsulation, triple(random)).map(|triple| *triple.as_bytes()),
+    )
+}
+
+/// Either form of a key gives one answer, under each of two dummies: what was sealed or encapsulated, or the same refusal. Each key has
+/// something sound, with one bit of it turned, with one word of it moved by little, and of another key.
+#[test]
+fn either_form_one_answer() {
+    let mut random = Random::new(208);
+    let mut count = Count::new("round trips, one answer from a secret key and its expanded form");
+    let (other_public_key, _, _) = new_key(&mut random);
+    for key in 0..250 {
+        let (public_key, secret_key, _) = new_key(&mut random);
+        let expanded_key: ExpandedSecretKey = polka::expand_secret_key(&secret_key).unwrap();
+        for kind in ["sound", "a bit turned", "a word moved", "of another key"] {
+            let public_key = if kind == "of another key" { &other_public_key } else { &public_key };
+            let entries: Vec<Entry> = (0..1 + random.below(255)).map(|_| Entry::from(&random.array())).collect();
+            let mut sealed = polka::seal(public_key, noise(&mut random), &entries[0]).unwrap().as_bytes().to_vec();
+            let mut batch = polka::seal_batch(public_key, noise(&mut random), &entries).unwrap().as_bytes().to_vec();
+            let mut encapsulation = polka::encapsulate(public_key, &triple(&mut random)).unwrap().as_bytes().to_vec();
+            for (record, start) in [(&mut sealed, 5), (&mut batch, 5), (&mut encapsulation, 0)] {
+                match kind {
+                    "a bit turned" => {
+                        let at = random.below(record.len());
+                        record[at] ^= 1 << random.below(8);
+                    }
+                    "a word moved" => {
+                        let place = &mut record[start + 2 * random.below(2048)..][..2];
+                        let word = u32::from(u16::from_le_bytes([place[0], place[1]]));
+                        let moved = (word + random.pick(&[1, reference::Q - 1, 2, 5])) % reference::Q;
+                        place.copy_from_slice(&(moved as u16).to_le_bytes());
+                    }
+                    _ => {}
+                }
+            }
+            let (sealed, encapsulation) = (SealedEntry::try_from(&sealed[..]), Encapsulation::try_from(&encapsulation[..]));
+            let lent = (&sealed.unwrap(), &batch[..], &encapsulation.unwrap());
+            let forms: [&dyn SecretRecord; 2] = [&secret_key, &expanded_key];
+            let given = [forms, forms].concat().into_iter().map(|form| answers(form, lent, &mut random)).collect::<Vec<_>>();
+            let sound = given[0].0.is_ok() && given[0].1.is_ok() && given[0].2.is_ok();
+            let as_it_should = if kind == "sound" { sound } else { kind != "of another key" || !sound };
+            count.agree(&format!("key {key}, {kind}"), as_it_should && given.iter().all(|one| *one == given[0]));
+        }
     }
     count.finish();
 }

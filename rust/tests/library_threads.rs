@@ -6,7 +6,7 @@ use std::thread;
 
 use common::answers;
 use common::random::Random;
-use polka::{Entry, Error, KeyNoise, PublicKey, SealedBatch, SealedEntry, Seed, TripleNoise};
+use polka::{Entry, Error, KeyNoise, PublicKey, SealedBatch, SealedEntry, SecretRecord, Seed, TripleNoise};
 
 /// What an entry at this place of the log answers: every tenth has another tag, and every tenth a bad word.
 fn refusal(place: usize) -> Option<Error> {
@@ -39,6 +39,7 @@ fn two_threads_open_at_once() {
             break keys;
         }
     };
+    let expanded_key = polka::expand_secret_key(&secret_key).unwrap();
     let public_key = PublicKey::try_from(&[&b"PDK\x01\x00"[..], &secret_key.as_bytes()[5..4101]].concat()[..]).unwrap();
     let entries: Vec<([u8; 16], SealedEntry)> = (0..ENTRIES)
         .map(|i| {
@@ -57,13 +58,16 @@ fn two_threads_open_at_once() {
         let handles: Vec<_> = [402, 403]
             .into_iter()
             .map(|seed| {
-                let (start, entries, secret_key, public_key, seeded_key) = (&start, &entries, &secret_key, &public_key, &seeded_key);
+                let (start, entries, public_key, seeded_key) = (&start, &entries, &public_key, &seeded_key);
+                let (secret_key, expanded_key) = (&secret_key, &expanded_key);
                 scope.spawn(move || {
                     let mut random = Random::new(seed);
                     start.wait();
                     let mut wrong = 0;
                     for (i, (bytes, sealed)) in entries.iter().enumerate() {
-                        let opened = polka::open(secret_key, sealed, TripleNoise::from(&random.array()));
+                        // one thread has the other form of the key each time
+                        let key: &dyn SecretRecord = if (seed + i as u64) % 2 == 0 { secret_key } else { expanded_key };
+                        let opened = polka::open(key, sealed, TripleNoise::from(&random.array()));
                         let right = match opened {
                             Ok(entry) => refusal(i).is_none() && entry.as_bytes() == bytes,
                             Err(error) => refusal(i) == Some(error),
@@ -74,7 +78,7 @@ fn two_threads_open_at_once() {
                         let same = sealed == polka::seal(seeded_key, TripleNoise::from(&noise), &Entry::from(bytes));
                         // and a batch there and back, of another size each time
                         let batch = polka::seal_batch(seeded_key, TripleNoise::from(&noise), &entries_until(entries, i)).unwrap();
-                        let opened = polka::open_batch(secret_key, &batch, TripleNoise::from(&random.array()));
+                        let opened = polka::open_batch(key, &batch, TripleNoise::from(&random.array()));
                         let whole = opened.is_ok_and(|opened| {
                             opened.iter().map(Entry::as_bytes).eq(entries_until(entries, i).iter().map(Entry::as_bytes))
                         });

@@ -22,6 +22,16 @@ fn check_secret_key() {
 }
 
 #[test]
+fn expand_secret_key() {
+    vectors::compare_expand_secret_key(&LIBRARY);
+}
+
+#[test]
+fn compact_secret_key() {
+    vectors::compare_compact_secret_key(&LIBRARY);
+}
+
+#[test]
 fn encapsulate() {
     vectors::compare_encapsulate(&LIBRARY);
 }

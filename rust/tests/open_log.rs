@@ -7,7 +7,7 @@ mod open_log;
 use std::fs;
 use std::path::PathBuf;
 
-use common::cases::{run, Case, REFERENCE};
+use common::cases::{run, Call, Case, REFERENCE};
 use common::damage::Sound;
 use common::random::Random;
 use common::vectors::desk_line;
@@ -131,6 +131,30 @@ fn a_sound_log_and_an_empty_one() {
     let (all, lines) = printed(&[&key_file, &room.write("log", &[&log[0][..], &log[2]].concat())]).unwrap();
     assert!(all && lines.len() == 3 && lines[2] == "2 entries: 2 opened, 0 refused");
     assert_eq!(printed(&[&key_file, &room.write("empty", &[])]).unwrap(), (true, vec!["0 entries: 0 opened, 0 refused".to_string()]));
+}
+
+/// The expanded form of the key prints the same, and is refused under numbers of its own.
+#[test]
+fn an_expanded_key() {
+    let room = Room::new("expanded");
+    let (key, log) = key_and_log();
+    let expand = Case { name: "expand".into(), call: Call::ExpandSecretKey, inputs: vec![key.clone()], outputs: vec![6405] };
+    let mut expanded = run(&REFERENCE, &expand).outputs.remove(0);
+    let (key_file, expanded_file) = (room.write("key", &key), room.write("expanded", &expanded));
+    let log_file = room.write("log", &log.concat());
+    assert_eq!(printed(&[&expanded_file, &log_file]).unwrap(), printed(&[&key_file, &log_file]).unwrap());
+    let refused = |name: &str, key: &[u8], why: &str| {
+        let path = room.write(name, key);
+        assert_eq!(printed(&[&path, &log_file]).unwrap_err(), format!("{path}: refused under {why}"));
+    };
+    refused("long", &[&expanded[..], &[0]].concat(), "1, misfit");
+    refused("short", &expanded[..6404], "1, misfit");
+    // the version is 2 still
+    refused("cut", &expanded[..4357], "1, misfit");
+    expanded[4357 + 2 * 17] ^= 1;
+    refused("other", &expanded, "13, inverse mismatch");
+    expanded[4357 + 2 * 17..][..2].fill(0xff);
+    refused("damaged", &expanded, "4, off the ring: secret key, stored inverse, word 17");
 }
 
 #[test]

@@ -11,6 +11,8 @@ const FAST: Calls = Calls {
     keygen: fast::keygen,
     keygen_from_seed: fast::keygen_from_seed,
     check_secret_key: fast::check_secret_key,
+    expand_secret_key: fast::expand_secret_key,
+    compact_secret_key: fast::compact_secret_key,
     encapsulate: fast::encapsulate,
     decapsulate: fast::decapsulate,
     seal: fast::seal,
@@ -26,6 +28,8 @@ fn every_call_on_every_vector() {
     vectors::compare_keygen(&FAST);
     vectors::compare_keygen_from_seed(&FAST);
     vectors::compare_check_secret_key(&FAST);
+    vectors::compare_expand_secret_key(&FAST);
+    vectors::compare_compact_secret_key(&FAST);
     vectors::compare_encapsulate(&FAST);
     vectors::compare_decapsulate(&FAST);
     vectors::compare_seal(&FAST);

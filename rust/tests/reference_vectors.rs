@@ -21,6 +21,16 @@ fn check_secret_key() {
 }
 
 #[test]
+fn expand_secret_key() {
+    vectors::compare_expand_secret_key(&REFERENCE);
+}
+
+#[test]
+fn compact_secret_key() {
+    vectors::compare_compact_secret_key(&REFERENCE);
+}
+
+#[test]
 fn encapsulate() {
     vectors::compare_encapsulate(&REFERENCE);
 }

@@ -3,8 +3,8 @@ mod common;
 
 use common::answers;
 use polka::{
-    Encapsulation, Entry, Error, KeyNoise, Part, PublicKey, PublicRecord, Record, SealedBatch, SealedEntry, SecretKey, Seed,
-    SeededPublicKey, Triple, TripleNoise,
+    Encapsulation, Entry, Error, ExpandedSecretKey, KeyNoise, Part, PublicKey, PublicRecord, Record, SealedBatch, SealedEntry, SecretKey,
+    SecretRecord, Seed, SeededPublicKey, Triple, TripleNoise,
 };
 
 /// The refusal with this number and this location in the vectors' words.
@@ -14,7 +14,7 @@ fn error(number: u32, location: &str) -> Error {
 
 #[test]
 fn refusals_know_their_numbers_and_words() {
-    for number in [1, 2, 3, 5, 6, 7, 8, 9, 10, 12] {
+    for number in [1, 2, 3, 5, 6, 7, 8, 9, 10, 12, 13] {
         let error = error(number, "");
         assert_eq!((error.number(), error.location()), (number, None));
         assert_eq!(error.to_string(), format!("{} ({number}, {})", error.meaning(), error.word()));
@@ -32,6 +32,7 @@ fn a_bad_word_has_a_location() {
         (4, "seeded_public_key b 1", Record::SeededPublicKey, Part::B, 1, "seeded public key, b, word 1"),
         (4, "secret_key a 512", Record::SecretKey, Part::A, 512, "secret key, a, word 512"),
         (4, "secret_key b 17", Record::SecretKey, Part::B, 17, "secret key, b, word 17"),
+        (4, "secret_key stored_inverse 3", Record::SecretKey, Part::StoredInverse, 3, "secret key, stored inverse, word 3"),
         (11, "sealed_entry c1 1023", Record::SealedEntry, Part::C1, 1023, "sealed entry, c1, word 1023"),
         (11, "sealed_entry c2 17", Record::SealedEntry, Part::C2, 17, "sealed entry, c2, word 17"),
         (11, "encapsulation c1 0", Record::Encapsulation, Part::C1, 0, "encapsulation, c1, word 0"),
@@ -53,7 +54,7 @@ fn a_bad_word_has_a_location() {
 #[test]
 fn unknown_codes_are_kept() {
     let bad_word = answers::code(4, "secret_key b 17");
-    let others = [4, 11, 13, 255, 0x100, 0x101, 0x0001_0000, bad_word & !0xf00, bad_word & !0xf000, bad_word | 0x100, bad_word | 0x7000];
+    let others = [4, 11, 14, 255, 0x100, 0x101, 0x0001_0000, bad_word & !0xf00, bad_word & !0xf000, bad_word | 0x500, bad_word | 0x7000];
     for code in others.into_iter().chain([bad_word + 0x0400_0000, bad_word | 0x1000_0000, bad_word + 1, u32::MAX]) {
         let error = Error::from_code(code).unwrap();
         assert_eq!((error, error.number(), error.location()), (Error::Unknown(code), code & 0xff, None));
@@ -63,7 +64,7 @@ fn unknown_codes_are_kept() {
 
 #[test]
 fn other_lengths_are_refused() {
-    let bytes = [0u8; 5000];
+    let bytes = [0u8; 7000];
     for off in [0, 2085, 4100, 4102] {
         assert_eq!(PublicKey::try_from(&bytes[..off]).unwrap_err(), Error::WrongLength);
     }
@@ -71,15 +72,22 @@ fn other_lengths_are_refused() {
         assert_eq!(SeededPublicKey::try_from(&bytes[..off]).unwrap_err(), Error::WrongLength);
     }
     assert_eq!(Seed::try_from(&bytes[..31]).unwrap_err(), Error::WrongLength);
-    assert_eq!(SecretKey::try_from(&bytes[..4356]).unwrap_err(), Error::WrongLength);
+    for off in [0, 4356, 4358, 6405] {
+        assert_eq!(SecretKey::try_from(&bytes[..off]).unwrap_err(), Error::WrongLength);
+    }
+    for off in [0, 4357, 6404, 6406] {
+        assert_eq!(ExpandedSecretKey::try_from(&bytes[..off]).unwrap_err(), Error::WrongLength);
+    }
     assert_eq!(SealedEntry::try_from(&bytes[..4134]).unwrap_err(), Error::WrongLength);
     assert_eq!(Entry::try_from(&bytes[..15]).unwrap_err(), Error::WrongLength);
     assert!(SecretKey::try_from(&bytes[..SecretKey::LENGTH]).is_ok());
+    assert!(ExpandedSecretKey::try_from(&bytes[..ExpandedSecretKey::LENGTH]).is_ok());
 }
 
 #[test]
 fn debug_shows_no_secret() {
     assert_eq!(format!("{:?}", SecretKey::from(&[0xab; 4357])), "SecretKey(4357 secret bytes)");
+    assert_eq!(format!("{:?}", ExpandedSecretKey::from(&[0xab; 6405])), "ExpandedSecretKey(6405 secret bytes)");
     assert_eq!(format!("{:?}", Triple::from(&[0xab; 768])), "Triple(768 secret bytes)");
     assert_eq!(format!("{:?}", Entry::from(&[0xab; 16])), "Entry(16 secret bytes)");
     assert_eq!(format!("{:?}", KeyNoise::from(&[0xab; 512])), "KeyNoise(512 secret bytes)");
@@ -94,6 +102,8 @@ fn debug_shows_no_secret() {
 fn refusals_come_back_as_errors() {
     let zeros = SecretKey::from(&[0; 4357]);
     assert_eq!(polka::check_secret_key(&zeros), Err(Error::WrongMark));
+    assert_eq!(polka::expand_secret_key(&zeros).unwrap_err(), Error::WrongMark);
+    assert_eq!(polka::compact_secret_key(&ExpandedSecretKey::from(&[0; 6405])).unwrap_err(), Error::WrongMark);
     let sealed = SealedEntry::from([0; 4133]);
     assert_eq!(polka::open(&zeros, &sealed, TripleNoise::from(&[0; 1536])).unwrap_err(), Error::WrongMark);
     assert_eq!(polka::open_batch(&zeros, &[0; 4135], TripleNoise::from(&[0; 1536])).unwrap_err(), Error::WrongMark);
@@ -108,6 +118,15 @@ fn sound_key() -> SecretKey {
     key[..5].copy_from_slice(b"SDK\x01\x00");
     key[2053] = 5;
     SecretKey::from(&key)
+}
+
+/// The same as version 2: 5 × 35,636 is 3 × 59,393 + 1.
+fn sound_expanded_key() -> ExpandedSecretKey {
+    let mut key = [0; 6405];
+    key[..4357].copy_from_slice(sound_key().as_bytes());
+    key[3] = 2;
+    key[4357..4359].copy_from_slice(&35_636u16.to_le_bytes());
+    ExpandedSecretKey::from(&key)
 }
 
 /// The public key of that one, with which sealing and opening go round.
@@ -217,6 +236,92 @@ fn either_public_record_is_taken() {
         long[..5].copy_from_slice(b"PDK\x01\x00");
         seeded[..5].copy_from_slice(b"PDS\x01\x00");
     }
+}
+
+/// The bytes of a sound key, and every refusal that an edit of them can bring about.
+#[test]
+fn keys_are_converted() {
+    assert_eq!(polka::expand_secret_key(&sound_key()).unwrap().as_bytes(), sound_expanded_key().as_bytes());
+    assert_eq!(polka::compact_secret_key(&sound_expanded_key()).unwrap().as_bytes(), sound_key().as_bytes());
+    let expanding: fn(fn(&mut [u8])) -> Error = |edit| {
+        let mut key = *sound_key().as_bytes();
+        edit(&mut key);
+        polka::expand_secret_key(&SecretKey::from(&key)).unwrap_err()
+    };
+    let compacting: fn(fn(&mut [u8])) -> Error = |edit| {
+        let mut key = *sound_expanded_key().as_bytes();
+        edit(&mut key);
+        polka::compact_secret_key(&ExpandedSecretKey::from(&key)).unwrap_err()
+    };
+    for refusal in [expanding, compacting] {
+        assert_eq!(refusal(|key| key[1] = b'd'), Error::WrongMark);
+        assert_eq!(refusal(|key| key[4] = 1), Error::WrongVersion);
+        assert_eq!(refusal(|key| key[3] = 3 - key[3]), Error::WrongVersion);
+        assert_eq!(refusal(|key| key[5 + 2 * 5..][..2].fill(0xff)), error(4, "secret_key a 5"));
+        assert_eq!(refusal(|key| key[2053 + 34..][..2].fill(0xff)), error(4, "secret_key b 17"));
+        assert_eq!(refusal(|key| key[4356] = 0xc0), Error::InvalidCode);
+        // a is 3 and s is 1
+        assert_eq!(refusal(|key| (key[5], key[4101]) = (3, 1)), Error::KeyMismatch);
+    }
+    assert_eq!(expanding(|key| key[2053] = 0), Error::NotInvertible);
+    assert_eq!(expanding(|key| key[2053] = 10), Error::KeyMismatch);
+    assert_eq!(compacting(|key| key[6403..].fill(0xff)), error(4, "secret_key stored_inverse 1023"));
+    assert_eq!(compacting(|key| key[2053] = 0), Error::InverseMismatch);
+    assert_eq!(compacting(|key| key[2053] = 10), Error::InverseMismatch);
+    assert_eq!(compacting(|key| key[4357] ^= 1), Error::InverseMismatch);
+    assert_eq!(compacting(|key| key[6403] ^= 1), Error::InverseMismatch);
+    // b is 1, and so is its inverse
+    assert_eq!(compacting(|key| (key[2053], key[4357], key[4358]) = (1, 1, 0)), Error::KeyMismatch);
+    // the other version is too short, or too long
+    let mut key = *sound_key().as_bytes();
+    key[3] = 2;
+    assert_eq!(polka::check_secret_key(&SecretKey::from(&key)), Err(Error::WrongLength));
+    let mut key = *sound_expanded_key().as_bytes();
+    key[3] = 1;
+    assert_eq!(polka::check_secret_key(&ExpandedSecretKey::from(&key)), Err(Error::WrongLength));
+}
+
+/// Either version, as it is, by whatever points to it, and where only the running program knows which.
+#[test]
+fn either_secret_record_is_taken() {
+    fn opens(key: &(impl SecretRecord + ?Sized)) {
+        let noise = || TripleNoise::from(&[0x21; 1536]);
+        let entry = Entry::from(b"lane 4, 00:47.52");
+        let triple = || Triple::from(&[0x21; 768]);
+        assert_eq!(polka::check_secret_key(key), Ok(()));
+        let sealed = polka::seal(&sound_public_key(), noise(), &entry).unwrap();
+        assert_eq!(polka::open(key, &sealed, noise()).unwrap().as_bytes(), entry.as_bytes());
+        let batch = polka::seal_batch(&sound_public_key(), noise(), &[entry]).unwrap();
+        assert_eq!(polka::open_batch(key, &batch, noise()).unwrap()[0].as_bytes(), b"lane 4, 00:47.52");
+        let encapsulation = polka::encapsulate(&sound_public_key(), &triple()).unwrap();
+        assert_eq!(polka::decapsulate(key, &encapsulation, triple()).unwrap().as_bytes(), triple().as_bytes());
+    }
+    let (key, expanded_key) = (sound_key(), sound_expanded_key());
+    opens(&key);
+    opens(&expanded_key);
+    opens(&&key);
+    let records: [Box<dyn SecretRecord>; 2] = [Box::new(sound_key()), Box::new(sound_expanded_key())];
+    for (record, length) in records.iter().zip([4357, 6405]) {
+        assert_eq!(record.as_slice().len(), length);
+        opens(record);
+        opens(&**record);
+    }
+    opens(&std::rc::Rc::new(sound_expanded_key()));
+    opens(&std::sync::Arc::new(sound_key()));
+    opens(&std::sync::Mutex::new(key).lock().unwrap());
+}
+
+/// What was written for one type of key compiles as it is: a call as a function on that type, and a key behind a pointer.
+#[test]
+fn calls_on_secret_keys_as_before() {
+    let check: fn(&SecretKey) -> Result<(), Error> = polka::check_secret_key;
+    let open: fn(&SecretKey, &SealedEntry, TripleNoise) -> Result<Entry, Error> = polka::open;
+    let key = std::sync::Arc::new(sound_key());
+    assert_eq!(check(&key), Ok(()));
+    assert_eq!(polka::check_secret_key(&key), Ok(()));
+    let noise = || TripleNoise::from(&[0x21; 1536]);
+    let sealed = polka::seal(&sound_public_key(), noise(), &Entry::from(b"lane 4, 00:47.52")).unwrap();
+    assert_eq!(open(&key, &sealed, noise()).unwrap().as_bytes(), b"lane 4, 00:47.52");
 }
 
 #[test]

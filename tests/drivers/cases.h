@@ -84,6 +84,14 @@ static uint32_t call_check_secret_key(struct buffer *in, struct buffer *out) {
     return polka_check_secret_key(LENT(in[0]));
 }
 
+static uint32_t call_expand_secret_key(struct buffer *in, struct buffer *out) {
+    return polka_expand_secret_key(LENT(in[0]), LENT(out[0]));
+}
+
+static uint32_t call_compact_secret_key(struct buffer *in, struct buffer *out) {
+    return polka_compact_secret_key(LENT(in[0]), LENT(out[0]));
+}
+
 static uint32_t call_encapsulate(struct buffer *in, struct buffer *out) {
     return polka_encapsulate(LENT(in[0]), LENT(in[1]), LENT(out[0]));
 }
@@ -132,6 +140,8 @@ static const struct call calls[] = {
     {"keygen", 3, 2, 0, POLKA_KEYGEN_STACK, call_keygen},
     {"keygen_from_seed", 3, 2, 0, POLKA_KEYGEN_FROM_SEED_STACK, call_keygen_from_seed},
     {"check_secret_key", 1, 0, 0, POLKA_CHECK_SECRET_KEY_STACK, call_check_secret_key},
+    {"expand_secret_key", 1, 1, 0, POLKA_EXPAND_SECRET_KEY_STACK, call_expand_secret_key},
+    {"compact_secret_key", 1, 1, 0, POLKA_COMPACT_SECRET_KEY_STACK, call_compact_secret_key},
     {"encapsulate", 2, 1, 0, POLKA_ENCAPSULATE_STACK, call_encapsulate},
     {"decapsulate", 3, 1, 0, POLKA_DECAPSULATE_STACK, call_decapsulate},
     {"seal", 3, 1, 0, POLKA_SEAL_STACK, call_seal},
@@ -195,6 +205,8 @@ static const char *part_name(uint32_t part) {
         return "a";
     case POLKA_PART_B:
         return "b";
+    case POLKA_PART_STORED_INVERSE:
+        return "stored_inverse";
     case POLKA_PART_C1:
         return "c1";
     case POLKA_PART_C2:

@@ -1,8 +1,10 @@
 /* Makes one call with its secrets marked undefined: memcheck then reports each branch and each address that hangs on them.
  * The answer and the outputs are marked defined again when the call is over. encapsulate_seeded, seal_seeded and seal_batch_seeded_255 are
- * encapsulate, seal and seal_batch_255 under a seeded public key; 1 and 255 are counts of entries.
- * usage: secrets keygen|keygen_from_seed|check_secret_key|encapsulate|encapsulate_seeded|decapsulate|seal|seal_seeded|open|seal_batch_1|
- *                seal_batch_255|seal_batch_seeded_255|open_batch_1|open_batch_255|shake128|shake256   under valgrind */
+ * encapsulate, seal and seal_batch_255 under a seeded public key; check_secret_key_expanded, decapsulate_expanded, open_expanded and
+ * open_batch_expanded_255 have an expanded secret key; 1 and 255 are counts of entries.
+ * usage: secrets keygen|keygen_from_seed|check_secret_key|check_secret_key_expanded|expand_secret_key|compact_secret_key|encapsulate|
+ *                encapsulate_seeded|decapsulate|decapsulate_expanded|seal|seal_seeded|open|open_expanded|seal_batch_1|seal_batch_255|
+ *                seal_batch_seeded_255|open_batch_1|open_batch_255|open_batch_expanded_255|shake128|shake256   under valgrind */
 #include <stdio.h>
 #include <stdlib.h>
 #include <string.h>
@@ -13,7 +15,8 @@
 static uint8_t seed[POLKA_SEED_LENGTH], stream[POLKA_UNIFORM_STREAM_LENGTH];
 static uint8_t noise_s[POLKA_KEY_NOISE_LENGTH], noise_e[POLKA_KEY_NOISE_LENGTH];
 static uint8_t public_key[POLKA_PUBLIC_KEY_LENGTH], seeded_public_key[POLKA_SEEDED_PUBLIC_KEY_LENGTH];
-static uint8_t secret_key[POLKA_SECRET_KEY_LENGTH];
+static uint8_t secret_key[POLKA_SECRET_KEY_LENGTH], secret_key_out[POLKA_SECRET_KEY_LENGTH];
+static uint8_t expanded_key[POLKA_EXPANDED_SECRET_KEY_LENGTH], expanded_key_out[POLKA_EXPANDED_SECRET_KEY_LENGTH];
 static uint8_t noise[POLKA_TRIPLE_NOISE_LENGTH], dummy_noise[POLKA_TRIPLE_NOISE_LENGTH];
 static uint8_t triple[POLKA_TRIPLE_LENGTH], dummy[POLKA_TRIPLE_LENGTH], triple_out[POLKA_TRIPLE_LENGTH];
 static uint8_t entry[POLKA_ENTRY_LENGTH], entry_out[POLKA_ENTRY_LENGTH];
@@ -57,8 +60,9 @@ static uint32_t seal(const uint8_t *key, size_t key_length) {
     return polka_seal(key, key_length, noise, sizeof noise, entry, sizeof entry, sealed, sizeof sealed);
 }
 
-static uint32_t open_sealed(void) {
-    return polka_open(secret_key, sizeof secret_key, sealed, sizeof sealed, dummy_noise, sizeof dummy_noise, entry_out, sizeof entry_out);
+/* With either version of the secret key. */
+static uint32_t open_sealed(const uint8_t *key, size_t key_length) {
+    return polka_open(key, key_length, sealed, sizeof sealed, dummy_noise, sizeof dummy_noise, entry_out, sizeof entry_out);
 }
 
 /* Of the first entries, so many. */
@@ -66,8 +70,8 @@ static uint32_t seal_batch(const uint8_t *key, size_t key_length, size_t count) 
     return polka_seal_batch(key, key_length, noise, sizeof noise, entries, POLKA_ENTRY_LENGTH * count, batch, POLKA_BATCH_LENGTH(count));
 }
 
-static uint32_t open_batch(size_t count) {
-    return polka_open_batch(secret_key, sizeof secret_key, batch, POLKA_BATCH_LENGTH(count), dummy_noise, sizeof dummy_noise, entries_out,
+static uint32_t open_batch(const uint8_t *key, size_t key_length, size_t count) {
+    return polka_open_batch(key, key_length, batch, POLKA_BATCH_LENGTH(count), dummy_noise, sizeof dummy_noise, entries_out,
                             sizeof entries_out, &count_out);
 }
 
@@ -81,17 +85,20 @@ static uint32_t keygen_from_seed(void) {
                                   sizeof seeded_public_key, secret_key, sizeof secret_key);
 }
 
-static uint32_t check_secret_key(void) {
-    return polka_check_secret_key(secret_key, sizeof secret_key);
+static uint32_t expand_secret_key(void) {
+    return polka_expand_secret_key(secret_key, sizeof secret_key, expanded_key_out, sizeof expanded_key_out);
+}
+
+static uint32_t compact_secret_key(void) {
+    return polka_compact_secret_key(expanded_key, sizeof expanded_key, secret_key_out, sizeof secret_key_out);
 }
 
 static uint32_t encapsulate(const uint8_t *key, size_t key_length) {
     return polka_encapsulate(key, key_length, triple, sizeof triple, encapsulation, sizeof encapsulation);
 }
 
-static uint32_t decapsulate(void) {
-    return polka_decapsulate(secret_key, sizeof secret_key, encapsulation, sizeof encapsulation, dummy, sizeof dummy, triple_out,
-                             sizeof triple_out);
+static uint32_t decapsulate(const uint8_t *key, size_t key_length) {
+    return polka_decapsulate(key, key_length, encapsulation, sizeof encapsulation, dummy, sizeof dummy, triple_out, sizeof triple_out);
 }
 
 /* Of any secret bytes; more than one block in and out. */
@@ -100,12 +107,23 @@ static uint32_t hash(void (*shake)(const uint8_t *, size_t, uint8_t *, size_t)) 
     return POLKA_DONE;
 }
 
-/* Whether what is made under this record of the public key comes back. */
-static int round_trips(const uint8_t *key, size_t key_length) {
+/* Whether what was sealed and encapsulated comes back with this version of the secret key. */
+static int opened(const uint8_t *key, size_t key_length) {
     memset(entry_out, 0, sizeof entry_out);
     memset(triple_out, 0, sizeof triple_out);
-    return seal(key, key_length) == POLKA_DONE && open_sealed() == POLKA_DONE && memcmp(entry, entry_out, sizeof entry) == 0 &&
-           encapsulate(key, key_length) == POLKA_DONE && decapsulate() == POLKA_DONE && memcmp(triple, triple_out, sizeof triple) == 0;
+    return open_sealed(key, key_length) == POLKA_DONE && memcmp(entry, entry_out, sizeof entry) == 0 &&
+           decapsulate(key, key_length) == POLKA_DONE && memcmp(triple, triple_out, sizeof triple) == 0;
+}
+
+/* The same of both, under this record of the public key. */
+static int round_trips(const uint8_t *key, size_t key_length) {
+    return seal(key, key_length) == POLKA_DONE && encapsulate(key, key_length) == POLKA_DONE && opened(LENT(secret_key)) &&
+           opened(LENT(expanded_key));
+}
+
+/* Whether each conversion gave the other's key. */
+static int converted(void) {
+    return memcmp(expanded_key, expanded_key_out, sizeof expanded_key) == 0 && memcmp(secret_key, secret_key_out, sizeof secret_key) == 0;
 }
 
 static void clear_batch_out(void) {
@@ -126,7 +144,9 @@ static int batch_opened(size_t count) {
 
 static int batch_round_trips(const uint8_t *key, size_t key_length, size_t count) {
     clear_batch_out();
-    return seal_batch(key, key_length, count) == POLKA_DONE && open_batch(count) == POLKA_DONE && batch_opened(count);
+    int opened = seal_batch(key, key_length, count) == POLKA_DONE && open_batch(LENT(secret_key), count) == POLKA_DONE && batch_opened(count);
+    clear_batch_out();
+    return opened && open_batch(LENT(expanded_key), count) == POLKA_DONE && batch_opened(count);
 }
 
 /* The count at the end of a call's name. */
@@ -150,9 +170,10 @@ static NAMED void secret_entries(void) {
     VALGRIND_MAKE_MEM_UNDEFINED(entries, sizeof entries);
 }
 
-/* s alone: a and b are public. */
+/* s alone: a, b and the inverse of b are public. */
 static NAMED void secret_key_s(void) {
     VALGRIND_MAKE_MEM_UNDEFINED(secret_key + POLKA_PUBLIC_KEY_LENGTH, POLKA_SECRET_KEY_LENGTH - POLKA_PUBLIC_KEY_LENGTH);
+    VALGRIND_MAKE_MEM_UNDEFINED(expanded_key + POLKA_PUBLIC_KEY_LENGTH, POLKA_SECRET_KEY_LENGTH - POLKA_PUBLIC_KEY_LENGTH);
 }
 
 static NAMED void secret_dummy(void) {
@@ -176,6 +197,9 @@ static void all_defined(void) {
     VALGRIND_MAKE_MEM_DEFINED(public_key, sizeof public_key);
     VALGRIND_MAKE_MEM_DEFINED(seeded_public_key, sizeof seeded_public_key);
     VALGRIND_MAKE_MEM_DEFINED(secret_key, sizeof secret_key);
+    VALGRIND_MAKE_MEM_DEFINED(secret_key_out, sizeof secret_key_out);
+    VALGRIND_MAKE_MEM_DEFINED(expanded_key, sizeof expanded_key);
+    VALGRIND_MAKE_MEM_DEFINED(expanded_key_out, sizeof expanded_key_out);
     VALGRIND_MAKE_MEM_DEFINED(noise, sizeof noise);
     VALGRIND_MAKE_MEM_DEFINED(dummy_noise, sizeof dummy_noise);
     VALGRIND_MAKE_MEM_DEFINED(triple, sizeof triple);
@@ -205,6 +229,9 @@ int main(int count, char **words) {
     /* the same key once more, for the other record */
     polka_shake128(seed, sizeof seed, stream, sizeof stream);
     must(keygen() == POLKA_DONE, "keygen");
+    must(expand_secret_key() == POLKA_DONE, "expand_secret_key");
+    memcpy(expanded_key, expanded_key_out, sizeof expanded_key);
+    must(compact_secret_key() == POLKA_DONE && converted(), "compact_secret_key");
     fill(noise, sizeof noise);
     fill(dummy_noise, sizeof dummy_noise);
     fill_codes(triple, sizeof triple);
@@ -219,6 +246,11 @@ int main(int count, char **words) {
     clear_batch_out();
     memset(entry_out, 0, sizeof entry_out);
     memset(triple_out, 0, sizeof triple_out);
+    if (strcmp(words[1], "expand_secret_key") == 0) {
+        memset(expanded_key_out, 0, sizeof expanded_key_out);
+    } else if (strcmp(words[1], "compact_secret_key") == 0) {
+        memset(secret_key_out, 0, sizeof secret_key_out);
+    }
 
     if (strcmp(words[1], "seal") == 0) {
         secret_noise();
@@ -231,7 +263,11 @@ int main(int count, char **words) {
     } else if (strcmp(words[1], "open") == 0) {
         secret_key_s();
         secret_dummy();
-        answer = open_sealed();
+        answer = open_sealed(LENT(secret_key));
+    } else if (strcmp(words[1], "open_expanded") == 0) {
+        secret_key_s();
+        secret_dummy();
+        answer = open_sealed(LENT(expanded_key));
     } else if (strcmp(words[1], "seal_batch_1") == 0 || strcmp(words[1], "seal_batch_255") == 0) {
         secret_noise();
         secret_entries();
@@ -243,7 +279,11 @@ int main(int count, char **words) {
     } else if (strcmp(words[1], "open_batch_1") == 0 || strcmp(words[1], "open_batch_255") == 0) {
         secret_key_s();
         secret_dummy();
-        answer = open_batch(batch_count);
+        answer = open_batch(LENT(secret_key), batch_count);
+    } else if (strcmp(words[1], "open_batch_expanded_255") == 0) {
+        secret_key_s();
+        secret_dummy();
+        answer = open_batch(LENT(expanded_key), batch_count);
     } else if (strcmp(words[1], "keygen") == 0) {
         secret_key_noise();
         answer = keygen();
@@ -252,7 +292,16 @@ int main(int count, char **words) {
         answer = keygen_from_seed();
     } else if (strcmp(words[1], "check_secret_key") == 0) {
         secret_key_s();
-        answer = check_secret_key();
+        answer = polka_check_secret_key(LENT(secret_key));
+    } else if (strcmp(words[1], "check_secret_key_expanded") == 0) {
+        secret_key_s();
+        answer = polka_check_secret_key(LENT(expanded_key));
+    } else if (strcmp(words[1], "expand_secret_key") == 0) {
+        secret_key_s();
+        answer = expand_secret_key();
+    } else if (strcmp(words[1], "compact_secret_key") == 0) {
+        secret_key_s();
+        answer = compact_secret_key();
     } else if (strcmp(words[1], "shake128") == 0) {
         secret_noise();
         answer = hash(polka_shake128);
@@ -268,14 +317,19 @@ int main(int count, char **words) {
     } else if (strcmp(words[1], "decapsulate") == 0) {
         secret_key_s();
         secret_dummy();
-        answer = decapsulate();
+        answer = decapsulate(LENT(secret_key));
+    } else if (strcmp(words[1], "decapsulate_expanded") == 0) {
+        secret_key_s();
+        secret_dummy();
+        answer = decapsulate(LENT(expanded_key));
     } else {
         must(0, "no such call");
     }
     VALGRIND_MAKE_MEM_DEFINED(&answer, sizeof answer);
     all_defined();
     must(answer == POLKA_DONE, "the call under secrets marked undefined");
-    if (strcmp(words[1], "open") == 0) {
+    must(converted(), "another key");
+    if (strcmp(words[1], "open") == 0 || strcmp(words[1], "open_expanded") == 0) {
         must(memcmp(entry, entry_out, sizeof entry) == 0, "another entry");
     } else if (strncmp(words[1], "open_batch", strlen("open_batch")) == 0) {
         must(batch_opened(batch_count), "other entries");

@@ -4,7 +4,7 @@
 
 const RECORDS: [(&str, u32); 5] =
     [("public_key", 1), ("seeded_public_key", 2), ("secret_key", 3), ("sealed_entry", 4), ("encapsulation", 5)];
-const PARTS: [(&str, u32); 4] = [("a", 1), ("b", 2), ("c1", 4), ("c2", 5)];
+const PARTS: [(&str, u32); 5] = [("a", 1), ("b", 2), ("stored_inverse", 3), ("c1", 4), ("c2", 5)];
 
 fn named(names: &[(&str, u32)], name: &str) -> u32 {
     names.iter().find(|(known, _)| *known == name).unwrap_or_else(|| panic!("no {name} in a location")).1

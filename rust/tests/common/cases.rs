@@ -8,6 +8,8 @@ pub enum Call {
     Keygen,
     KeygenFromSeed,
     CheckSecretKey,
+    ExpandSecretKey,
+    CompactSecretKey,
     Encapsulate,
     Decapsulate,
     Seal,
@@ -27,6 +29,7 @@ pub struct Case {
 }
 
 type Hash = fn(&[u8], &mut [u8]);
+type OneIn = fn(&[u8], &mut [u8]) -> u32;
 type TwoIn = fn(&[u8], &[u8], &mut [u8]) -> u32;
 type ThreeIn = fn(&[u8], &[u8], &[u8], &mut [u8]) -> u32;
 type ThreeInTwoOut = fn(&[u8], &[u8], &[u8], &mut [u8], &mut [u8]) -> u32;
@@ -37,6 +40,8 @@ pub struct Calls {
     pub keygen: ThreeInTwoOut,
     pub keygen_from_seed: ThreeInTwoOut,
     pub check_secret_key: fn(&[u8]) -> u32,
+    pub expand_secret_key: OneIn,
+    pub compact_secret_key: OneIn,
     pub encapsulate: TwoIn,
     pub decapsulate: ThreeIn,
     pub seal: ThreeIn,
@@ -51,6 +56,8 @@ pub const REFERENCE: Calls = Calls {
     keygen: reference::keygen,
     keygen_from_seed: reference::keygen_from_seed,
     check_secret_key: reference::check_secret_key,
+    expand_secret_key: reference::expand_secret_key,
+    compact_secret_key: reference::compact_secret_key,
     encapsulate: reference::encapsulate,
     decapsulate: reference::decapsulate,
     seal: reference::seal,
@@ -110,6 +117,8 @@ pub fn run(calls: &Calls, case: &Case) -> Outcome {
             Call::Keygen => keys(calls.keygen, &mut lent),
             Call::KeygenFromSeed => keys(calls.keygen_from_seed, &mut lent),
             Call::CheckSecretKey => (calls.check_secret_key)(input(0)),
+            Call::ExpandSecretKey => (calls.expand_secret_key)(input(0), lent[0]),
+            Call::CompactSecretKey => (calls.compact_secret_key)(input(0), lent[0]),
             Call::Encapsulate => (calls.encapsulate)(input(0), input(1), lent[0]),
             Call::Decapsulate => (calls.decapsulate)(input(0), input(1), input(2), lent[0]),
             Call::Seal => (calls.seal)(input(0), input(1), input(2), lent[0]),

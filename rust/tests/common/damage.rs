@@ -4,20 +4,27 @@ use super::cases::{run, Call, Case, REFERENCE};
 use super::random::Random;
 use super::reference::{self, N, Q};
 
-/// A sound case of each call, all under one key. The calls that are lent a public key have one for each record.
+/// A sound case of each call, all under one key. The calls that are lent a public key have one for each record, and those that are lent a
+/// secret key of either version one for each version.
 pub struct Sound {
     pub keygen: Case,
     pub keygen_from_seed: Case,
     pub check_secret_key: Case,
+    pub check_secret_key_expanded: Case,
+    pub expand_secret_key: Case,
+    pub compact_secret_key: Case,
     pub encapsulate: Case,
     pub encapsulate_seeded: Case,
     pub decapsulate: Case,
+    pub decapsulate_expanded: Case,
     pub seal: Case,
     pub seal_seeded: Case,
     pub open: Case,
+    pub open_expanded: Case,
     pub seal_batch: Case,
     pub seal_batch_seeded: Case,
     pub open_batch: Case,
+    pub open_batch_expanded: Case,
 }
 
 fn case(name: &str, call: Call, inputs: Vec<Vec<u8>>, outputs: &[usize]) -> Case {
@@ -55,10 +62,15 @@ impl Sound {
         reference::shake128(&keygen_from_seed.inputs[0], &mut inputs[0]);
         let keygen = case("keygen", Call::Keygen, inputs, &[4101, 4357]);
         let public_key = written(&keygen).unwrap().remove(0);
-        let seeded = |long: &Case| {
-            let inputs = [&[seeded_public_key.clone()][..], &long.inputs[1..]].concat();
-            case(&format!("{}, seeded key", long.name), long.call, inputs, &long.outputs)
+        let expand_secret_key = case("expand_secret_key", Call::ExpandSecretKey, vec![secret_key.clone()], &[6405]);
+        let expanded_key = written(&expand_secret_key).unwrap().remove(0);
+        let compact_secret_key = case("compact_secret_key", Call::CompactSecretKey, vec![expanded_key.clone()], &[4357]);
+        let under = |key: &Vec<u8>, kind: &str, other: &Case| {
+            let inputs = [&[key.clone()][..], &other.inputs[1..]].concat();
+            case(&format!("{}, {kind} key", other.name), other.call, inputs, &other.outputs)
         };
+        let seeded = |long: &Case| under(&seeded_public_key, "seeded", long);
+        let expanded = |plain: &Case| under(&expanded_key, "expanded", plain);
         let check_secret_key = case("check_secret_key", Call::CheckSecretKey, vec![secret_key.clone()], &[]);
         let encapsulate = case("encapsulate", Call::Encapsulate, vec![public_key.clone(), random.codes(768)], &[4096]);
         let encapsulate_seeded = seeded(&encapsulate);
@@ -77,33 +89,45 @@ impl Sound {
         Sound {
             keygen,
             keygen_from_seed,
+            check_secret_key_expanded: expanded(&check_secret_key),
             check_secret_key,
+            expand_secret_key,
+            compact_secret_key,
             encapsulate,
             encapsulate_seeded,
+            decapsulate_expanded: expanded(&decapsulate),
             decapsulate,
             seal,
             seal_seeded,
+            open_expanded: expanded(&open),
             open,
             seal_batch,
             seal_batch_seeded,
+            open_batch_expanded: expanded(&open_batch),
             open_batch,
         }
     }
 
-    pub fn all(&self) -> [&Case; 12] {
+    pub fn all(&self) -> [&Case; 18] {
         [
             &self.keygen,
             &self.keygen_from_seed,
             &self.check_secret_key,
+            &self.check_secret_key_expanded,
+            &self.expand_secret_key,
+            &self.compact_secret_key,
             &self.encapsulate,
             &self.encapsulate_seeded,
             &self.decapsulate,
+            &self.decapsulate_expanded,
             &self.seal,
             &self.seal_seeded,
             &self.open,
+            &self.open_expanded,
             &self.seal_batch,
             &self.seal_batch_seeded,
             &self.open_batch,
+            &self.open_batch_expanded,
         ]
     }
 }
@@ -156,12 +180,31 @@ fn element(bytes: &[u8], at: usize) -> Option<reference::Element> {
     (0..N).map(|i| word(bytes, at + 2 * i)).collect()
 }
 
+/// On the ring, where an earlier edit may have left a word of q or more.
+fn reduced(bytes: &[u8], at: usize) -> Option<reference::Element> {
+    Some(reference::multiple(1, &element(bytes, at)?))
+}
+
+fn put_element(bytes: &mut [u8], at: usize, f: &[u32]) {
+    for (i, &value) in f.iter().enumerate() {
+        put_word(bytes, at + 2 * i, value);
+    }
+}
+
 fn put_code(bytes: &mut [u8], at: usize, place: usize, code: u8) {
     if let Some(byte) = bytes.get_mut(at + place / 4) {
         let shift = 2 * (place % 4);
         *byte = *byte & !(3 << shift) | code << shift;
     }
 }
+
+/// Where a secret key has b, s and, expanded, the inverse of b.
+const B_AT: usize = 2053;
+const S_AT: usize = 4101;
+const INVERSE_AT: usize = 4357;
+
+/// Where a sealed entry has its body.
+const ENTRY_BODY_AT: usize = 4101;
 
 /// A batch of so many entries.
 fn batch_length(entries: usize) -> usize {
@@ -194,6 +237,17 @@ fn value_at(f: &[u32], root: u64) -> u32 {
 /// 3 to an odd power.
 fn root(exponent: usize) -> u64 {
     (0..exponent).fold(1, |power, _| power * 3 % u64::from(Q))
+}
+
+/// Adds to an element what is `by` at the root 3^exponent and 0 at every other one: by ÷ 1024 × (1 + X ÷ root + X^2 ÷ root^2 + ..).
+fn move_at_root(bytes: &mut [u8], at: usize, exponent: usize, by: u32) {
+    let (q, step) = (u64::from(Q), root(2 * N - exponent));
+    // −58 × 1024 is 1
+    let mut term = u64::from(by) * (q - 58) % q;
+    for i in 0..N {
+        move_word(bytes, at + 2 * i, term as u32);
+        term = term * step % q;
+    }
 }
 
 /// Noise whose polynomial has this value at the root 3^exponent: the value in digits −1, 0, 1 to base 3, each at the coefficient that
@@ -236,7 +290,7 @@ pub fn lengths(case: &Case) -> Vec<Damage> {
     all
 }
 
-/// Each byte of the mark, other records' marks, and versions.
+/// Each byte of the mark, other records' marks, and versions. Where a call takes two, the length is not that of the other.
 pub fn headers(case: &Case, input: usize) -> Vec<Damage> {
     let (own, own_version) = (&case.inputs[input][..3], word(&case.inputs[input], 3));
     let mut all = vec![];
@@ -258,7 +312,8 @@ pub fn headers(case: &Case, input: usize) -> Vec<Damage> {
     let single_bits = (0..16).map(|bit| 1 << bit);
     let versions = [0u16, 3, 255, 257, 258, 513, 514, 65535].into_iter().chain(single_bits);
     for version in versions.filter(|&version| Some(u32::from(version)) != own_version) {
-        all.push(Damage::new(format!("input {input}, version {version}"), Some(3), move |case| {
+        let code = if input == 0 && takes_either(case) && [1, 2].contains(&version) { 1 } else { 3 };
+        all.push(Damage::new(format!("input {input}, version {version}"), Some(code), move |case| {
             put(&mut case.inputs[input], 3, &version.to_le_bytes());
         }));
     }
@@ -276,6 +331,37 @@ pub fn other_records(case: &Case) -> Vec<Damage> {
     all.push(Damage::new(format!("input 0 of length {other} and mark {}", String::from_utf8_lossy(mark)), None, move |case| {
         case.inputs[0].resize(other, 0);
         put(&mut case.inputs[0], 0, mark);
+    }));
+    all
+}
+
+/// The secret key, input 0, at lengths of all kinds with its own header, with another mark and with other versions: mark and version are
+/// told before the length, which hangs on the version. And as the other version, of its length.
+pub fn key_versions(case: &Case) -> Vec<Damage> {
+    let mut all = vec![];
+    let lengths = [0, 1, 2, 3, 4, 5, 6, 2085, 4101, 4133, 4356, 4357, 4358, 6404, 6405, 6406, 8714];
+    for length in lengths.into_iter().filter(|&length| length != case.inputs[0].len()) {
+        let mut add = |name: &str, code: u32, at: usize, bytes: &'static [u8]| {
+            // a header that is cut off tells nothing
+            let code = if length < 5 { 1 } else { code };
+            all.push(Damage::new(format!("input 0 of length {length}{name}"), Some(code), move |case| {
+                case.inputs[0].resize(length, 0);
+                put(&mut case.inputs[0], at, bytes);
+            }));
+        };
+        add("", 1, 0, b"");
+        add(" and mark sDK", 2, 0, b"s");
+        add(" and mark SDk", 2, 2, b"k");
+        for version in [b"\x00\x00", b"\x03\x00", b"\xff\xff"] {
+            add(&format!(" and version {}", u16::from_le_bytes(*version)), 3, 3, version);
+        }
+    }
+    // an inverse of zeros, or none where none is needed
+    let (other, version, code) = if is_expanded(case) { (4357, 1, 0) } else { (6405, 2, 13) };
+    let code = if takes_either(case) { code } else { 3 };
+    all.push(Damage::new(format!("input 0 of length {other} and version {version}"), Some(code), move |case| {
+        case.inputs[0].resize(other, 0);
+        put(&mut case.inputs[0], 3, &[version, 0]);
     }));
     all
 }
@@ -330,13 +416,16 @@ pub fn words_of(case: &Case) -> Vec<Words> {
     let pair = |input, number, record, [first, second]: [&'static str; 2], start| {
         [(first, start), (second, start + 2 * N)].map(|(part, start)| Words { input, number, record, part, start }).to_vec()
     };
-    let secret_key = pair(0, 4, "secret_key", ["a", "b"], 5);
+    let mut secret_key = pair(0, 4, "secret_key", ["a", "b"], 5);
+    if is_expanded(case) {
+        secret_key.push(Words { input: 0, number: 4, record: "secret_key", part: "stored_inverse", start: INVERSE_AT });
+    }
     match case.call {
         Call::Encapsulate | Call::Seal | Call::SealBatch if is_seeded(case) => {
             vec![Words { input: 0, number: 4, record: "seeded_public_key", part: "b", start: 37 }]
         }
         Call::Encapsulate | Call::Seal | Call::SealBatch => pair(0, 4, "public_key", ["a", "b"], 5),
-        Call::CheckSecretKey => secret_key,
+        Call::CheckSecretKey | Call::ExpandSecretKey | Call::CompactSecretKey => secret_key,
         Call::Decapsulate => [secret_key, pair(1, 11, "encapsulation", ["c1", "c2"], 0)].concat(),
         Call::Open | Call::OpenBatch => [secret_key, pair(1, 11, "sealed_entry", ["c1", "c2"], 5)].concat(),
         Call::Keygen | Call::KeygenFromSeed | Call::Shake128 | Call::Shake256 => vec![],
@@ -371,34 +460,126 @@ pub fn codes(input: usize, start: usize, count: usize) -> Vec<Damage> {
         .collect()
 }
 
+/// b is zero at one root of X^1024 + 1, and as it was at all others. The key is input 0, and b starts there.
+fn no_unit_at(case: &Case, start: usize, exponent: usize) -> Damage {
+    Damage::new(format!("b is 0 at the root 3^{exponent}, at others as it was"), no_unit(case), move |case| {
+        if let Some(b) = element(&case.inputs[0], start) {
+            move_at_root(&mut case.inputs[0], start, exponent, Q - value_at(&b, root(exponent)));
+        }
+    })
+}
+
+/// What is told where b has no inverse. One that is stored then does not fit, also where it does at every root but one.
+fn no_unit(case: &Case) -> Option<u32> {
+    Some(if is_expanded(case) { 13 } else { 6 })
+}
+
+/// The stored inverse is another at one root. The expanded key is input 0.
+fn inverse_moved_at(exponent: usize) -> Damage {
+    Damage::new(format!("stored inverse moved at the root 3^{exponent} alone"), Some(13), move |case| {
+        move_at_root(&mut case.inputs[0], INVERSE_AT, exponent, 1);
+    })
+}
+
+/// Both of these at each root. The secret key is input 0.
+pub fn every_root(case: &Case) -> Vec<Damage> {
+    let roots = || (1..2 * N).step_by(2);
+    let inverses = roots().filter(|_| is_expanded(case)).map(inverse_moved_at);
+    roots().map(|exponent| no_unit_at(case, B_AT, exponent)).chain(inverses).collect()
+}
+
 /// b is zero, or zero at one root of X^1024 + 1. The key is input 0, and b starts there.
-pub fn no_units(start: usize) -> Vec<Damage> {
-    let mut all = vec![Damage::new("b is 0".into(), Some(6), move |case| put(&mut case.inputs[0], start, &[0; 2048]))];
+pub fn no_units(case: &Case, start: usize) -> Vec<Damage> {
+    let code = no_unit(case);
+    let mut all = vec![Damage::new("b is 0".into(), code, move |case| put(&mut case.inputs[0], start, &[0; 2048]))];
     for exponent in [1, 3, 5, 1023, 1025, 2047] {
-        all.push(Damage::new(format!("b is 0 at the root 3^{exponent}"), Some(6), move |case| {
+        all.push(Damage::new(format!("b is 0 at the root 3^{exponent}"), code, move |case| {
             if let Some(b) = element(&case.inputs[0], start) {
                 move_word(&mut case.inputs[0], start, Q - value_at(&b, root(exponent)));
+            }
+        }));
+        all.push(no_unit_at(case, start, exponent));
+    }
+    all
+}
+
+/// b moved at one coefficient, or s. A move by 10 can leave the key sound, one by 15 cannot; a few leave b no unit. A stored inverse fits
+/// none of them.
+pub fn parted_keys(case: &Case) -> Vec<Damage> {
+    let moved = is_expanded(case).then_some(13);
+    let mut all = vec![];
+    for place in [0, 1, 511, 512, 1022, 1023] {
+        for by in [1, Q - 1, 5, Q - 5, 7, 10, Q - 10, 15, Q - 15] {
+            all.push(Damage::new(format!("b[{place}] moved by {by}"), moved, move |case| {
+                move_word(&mut case.inputs[0], B_AT + 2 * place, by);
+            }));
+        }
+        all.push(Damage::new(format!("s[{place}] turned"), Some(7), move |case| {
+            if let Some(&byte) = case.inputs[0].get(S_AT + place / 4) {
+                let code = byte >> (2 * (place % 4)) & 3;
+                put_code(&mut case.inputs[0], S_AT, place, (code + 1) % 3);
             }
         }));
     }
     all
 }
 
-/// b moved at one coefficient, or s. A move by 10 can leave the key sound, one by 15 cannot; a few leave b no unit.
-pub fn parted_keys() -> Vec<Damage> {
-    let mut all = vec![];
+/// Other stored inverses: near the right one, right at all roots but one, and of other elements; and another b with the inverse that fits.
+/// The expanded key is input 0.
+pub fn stored_inverses() -> Vec<Damage> {
+    let mut all: Vec<Damage> = [1, 3, 5, 1023, 1025, 2047].map(inverse_moved_at).into();
+    let mut add = |name: String, code: Option<u32>, edit: Edit| all.push(Damage { name: format!("stored inverse {name}"), code, edit });
     for place in [0, 1, 511, 512, 1022, 1023] {
-        for by in [1, Q - 1, 5, Q - 5, 7, 10, Q - 10, 15, Q - 15] {
-            all.push(Damage::new(format!("b[{place}] moved by {by}"), None, move |case| {
-                move_word(&mut case.inputs[0], 2053 + 2 * place, by);
-            }));
+        for by in [1, Q - 1] {
+            let edit = move |case: &mut Case| move_word(&mut case.inputs[0], INVERSE_AT + 2 * place, by);
+            add(format!("moved by {by} at {place}"), Some(13), Box::new(edit));
         }
-        all.push(Damage::new(format!("s[{place}] turned"), Some(7), move |case| {
-            if let Some(&byte) = case.inputs[0].get(4101 + place / 4) {
-                let code = byte >> (2 * (place % 4)) & 3;
-                put_code(&mut case.inputs[0], 4101, place, (code + 1) % 3);
+    }
+    // made of b and the right one
+    type Other = fn(reference::Element, reference::Element) -> reference::Element;
+    let others: [(&str, Other); 7] = [
+        ("is 0", |b, _| vec![0; b.len()]),
+        ("is 1", |b, _| (0..b.len()).map(|i| u32::from(i == 0)).collect()),
+        ("is b", |b, _| b),
+        ("is that of -b", |_, inverse| reference::multiple(Q - 1, &inverse)),
+        ("is that of b / 5", |_, inverse| reference::multiple(5, &inverse)),
+        ("is turned by X", |_, mut inverse| {
+            inverse.rotate_right(1);
+            inverse[0] = (Q - inverse[0]) % Q;
+            inverse
+        }),
+        ("is written from the other end", |_, mut inverse| {
+            inverse.reverse();
+            inverse
+        }),
+    ];
+    for (name, other) in others {
+        let edit = move |case: &mut Case| {
+            if let (Some(b), Some(inverse)) = (reduced(&case.inputs[0], B_AT), reduced(&case.inputs[0], INVERSE_AT)) {
+                put_element(&mut case.inputs[0], INVERSE_AT, &other(b, inverse));
             }
-        }));
+        };
+        add(name.into(), Some(13), Box::new(edit));
+    }
+    // another b: s does not fit, or there is another e
+    for (factor, fitting) in [(2, Q.div_ceil(2)), (Q - 1, Q - 1)] {
+        let edit = move |case: &mut Case| {
+            for (at, factor) in [(B_AT, factor), (INVERSE_AT, fitting)] {
+                if let Some(part) = reduced(&case.inputs[0], at) {
+                    put_element(&mut case.inputs[0], at, &reference::multiple(factor, &part));
+                }
+            }
+        };
+        add(format!("fits b, which is {factor} times as large"), Some(7), Box::new(edit));
+    }
+    for by in [5, Q - 5, 10, Q - 10, 15] {
+        let edit = move |case: &mut Case| {
+            move_word(&mut case.inputs[0], B_AT, by);
+            if let Some(inverse) = reduced(&case.inputs[0], B_AT).and_then(|b| reference::inverse(&b)) {
+                put_element(&mut case.inputs[0], INVERSE_AT, &inverse);
+            }
+        };
+        add(format!("fits b, b[0] moved by {by}"), None, Box::new(edit));
     }
     all
 }
@@ -439,7 +620,7 @@ fn turned_bit(name: String, start: usize, bit: usize) -> Damage {
 
 /// Every bit of body and tag. The sealed entry is input 1.
 pub fn body_and_tag() -> Vec<Damage> {
-    (0..256).map(|bit| turned_bit(format!("{} bit {}", if bit < 128 { "body" } else { "tag" }, bit % 128), 4101, bit)).collect()
+    (0..256).map(|bit| turned_bit(format!("{} bit {}", if bit < 128 { "body" } else { "tag" }, bit % 128), ENTRY_BODY_AT, bit)).collect()
 }
 
 /// Every bit of the tag, of the first block and of the last, and one of each block between them. The batch, of m entries, is input 1.
@@ -530,11 +711,12 @@ pub fn entries() -> Vec<Damage> {
     all
 }
 
-/// A fault for each check of a call on batches, in the order of the checks. Each can stand beside any of the others.
+/// A fault for each check of a call that is lent a secret key or a batch, in the order of the checks. Each can stand beside any of the
+/// others.
 pub fn in_order(case: &Case) -> Vec<Damage> {
     let fault = |name: &str, code: u32, edit: Edit| Damage { name: name.into(), code: Some(code), edit };
     let mark = |input: usize| fault("mark", 2, Box::new(move |case| case.inputs[input][1] ^= 0x20));
-    let version = |input: usize| fault("version 3", 3, Box::new(move |case| case.inputs[input][3] = 3));
+    let version = |input: usize| fault("version 3", 3, Box::new(move |case| put(&mut case.inputs[input], 3, &[3])));
     let cut = |input: usize, length: usize| {
         fault(&format!("input {input} cut to {length}"), 1, Box::new(move |case| case.inputs[input].truncate(length)))
     };
@@ -544,7 +726,7 @@ pub fn in_order(case: &Case) -> Vec<Damage> {
     };
     let bad_word = |part: Words, index: usize| fault("a bad word", part.code(index), Box::new(move |case| part.put(case, index, Q)));
     // a bad word stays
-    let no_unit = |b: Words| {
+    let no_unit = |b: Words, code: u32| {
         let edit = move |case: &mut Case| {
             for index in 0..N {
                 if b.get(case, index) < Some(Q) {
@@ -552,34 +734,63 @@ pub fn in_order(case: &Case) -> Vec<Damage> {
                 }
             }
         };
-        fault("b is 0", 6, Box::new(edit))
+        fault("b is 0", code, Box::new(edit))
+    };
+    let code_3 = |input: usize, start: usize| fault("a code is 3", 5, Box::new(move |case| put_code(&mut case.inputs[input], start, 1, 3)));
+    let moved = |input: usize, at: usize, by: u32, code: u32| {
+        fault(&format!("input {input} moved by {by}"), code, Box::new(move |case| move_word(&mut case.inputs[input], at, by)))
     };
     let words = words_of(case);
+    // still without a version with a byte more
+    let no_key = || cut(0, 3);
+    let key = || {
+        let of_key = words.iter().filter(|part| part.number == 4);
+        let mut faults = vec![mark(0), version(0), more(0, 1, 1)];
+        faults.extend(of_key.zip([5, 700, 300]).map(|(&part, index)| bad_word(part, index)));
+        faults.push(code_3(0, S_AT));
+        if is_expanded(case) {
+            faults.extend([no_unit(words[1], 13), moved(0, INVERSE_AT, 1, 13)]);
+        } else {
+            faults.push(no_unit(words[1], 6));
+        }
+        faults.push(fault("s is 0", 7, Box::new(|case| put(&mut case.inputs[0], S_AT + 1, &[0; 255]))));
+        faults
+    };
+    let c2 = || bad_word(*words.last().unwrap(), 9);
     match case.call {
         Call::SealBatch => {
             let b = *words.last().unwrap();
-            vec![more(2, 1, 1), more(2, 4096, 12), cut(0, 2000), cut(1, 1535), output(), mark(0), version(0), bad_word(b, 700), no_unit(b)]
+            vec![
+                more(2, 1, 1),
+                more(2, 4096, 12),
+                cut(0, 2000),
+                cut(1, 1535),
+                output(),
+                mark(0),
+                version(0),
+                bad_word(b, 700),
+                no_unit(b, 6),
+            ]
         }
-        Call::OpenBatch => vec![
-            cut(0, 4356),
+        Call::CheckSecretKey => [vec![no_key()], key()].into_iter().flatten().collect(),
+        Call::ExpandSecretKey | Call::CompactSecretKey => [vec![no_key(), output()], key()].into_iter().flatten().collect(),
+        Call::Decapsulate => {
+            let first = vec![no_key(), cut(1, 4095), cut(2, 767), output()];
+            [first, key(), vec![c2(), code_3(2, 0), moved(1, 0, 3, 9)]].into_iter().flatten().collect()
+        }
+        Call::Open => {
+            let first = vec![no_key(), more(1, 1, 1), cut(2, 1535), output()];
+            let body = fault("body", 10, Box::new(|case| case.inputs[1][ENTRY_BODY_AT] ^= 1));
+            [first, key(), vec![mark(1), version(1), c2(), moved(1, 5, 3, 9), body]].into_iter().flatten().collect()
+        }
+        Call::OpenBatch => {
             // still below 4,119 with a byte more
-            cut(1, 4110),
-            cut(2, 1535),
-            output(),
-            mark(0),
-            version(0),
-            bad_word(words[0], 5),
-            fault("a code is 3", 5, Box::new(|case| put_code(&mut case.inputs[0], 4101, 1, 3))),
-            no_unit(words[1]),
-            fault("s is 0", 7, Box::new(|case| put(&mut case.inputs[0], 4102, &[0; 255]))),
-            mark(1),
-            version(1),
-            fault("count larger by 256", 12, Box::new(|case| case.inputs[1][COUNT_AT + 1] = 1)),
-            more(1, 1, 1),
-            bad_word(words[3], 9),
-            fault("c1[0] moved by 3", 9, Box::new(|case| move_word(&mut case.inputs[1], 5, 3))),
-            fault("body", 10, Box::new(|case| case.inputs[1][BODY_AT] ^= 1)),
-        ],
+            let first = vec![no_key(), cut(1, 4110), cut(2, 1535), output()];
+            let count = fault("count larger by 256", 12, Box::new(|case| case.inputs[1][COUNT_AT + 1] = 1));
+            let body = fault("body", 10, Box::new(|case| case.inputs[1][BODY_AT] ^= 1));
+            let batch = vec![mark(1), version(1), count, more(1, 1, 1), c2(), moved(1, 5, 3, 9), body];
+            [first, key(), batch].into_iter().flatten().collect()
+        }
         _ => vec![],
     }
 }
@@ -666,6 +877,16 @@ fn is_seeded(case: &Case) -> bool {
     case.inputs[0].len() == 2085
 }
 
+/// Whether the secret key, input 0, is of version 2.
+fn is_expanded(case: &Case) -> bool {
+    case.inputs[0].len() == 6405
+}
+
+/// Whether input 0 is a secret key of either version.
+fn takes_either(case: &Case) -> bool {
+    matches!(case.call, Call::CheckSecretKey | Call::Decapsulate | Call::Open | Call::OpenBatch)
+}
+
 /// All kinds that fit a sound case.
 pub fn of(case: &Case, random: &mut Random) -> Vec<Damage> {
     let mut all = lengths(case);
@@ -676,11 +897,15 @@ pub fn of(case: &Case, random: &mut Random) -> Vec<Damage> {
             all.extend(seeds(0, None));
             all.extend(seeded_no_units());
         }
-        Call::CheckSecretKey | Call::Decapsulate | Call::Open | Call::OpenBatch => {
+        Call::CheckSecretKey | Call::ExpandSecretKey | Call::CompactSecretKey | Call::Decapsulate | Call::Open | Call::OpenBatch => {
             all.extend(headers(case, 0));
-            all.extend(codes(0, 4101, 1024));
-            all.extend(no_units(2053));
-            all.extend(parted_keys());
+            all.extend(key_versions(case));
+            all.extend(codes(0, S_AT, 1024));
+            all.extend(no_units(case, B_AT));
+            all.extend(parted_keys(case));
+            if is_expanded(case) {
+                all.extend(stored_inverses());
+            }
         }
         Call::Encapsulate | Call::Seal | Call::SealBatch => {
             all.extend(headers(case, 0));
@@ -688,9 +913,9 @@ pub fn of(case: &Case, random: &mut Random) -> Vec<Damage> {
             if is_seeded(case) {
                 // b is a unit whatever a is
                 all.extend(seeds(5, Some(0)));
-                all.extend(no_units(37));
+                all.extend(no_units(case, 37));
             } else {
-                all.extend(no_units(2053));
+                all.extend(no_units(case, B_AT));
             }
         }
         Call::Shake128 | Call::Shake256 => {}

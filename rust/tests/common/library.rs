@@ -12,6 +12,8 @@ pub const LIBRARY: Calls = Calls {
     keygen: ffi::keygen,
     keygen_from_seed: ffi::keygen_from_seed,
     check_secret_key: ffi::check_secret_key,
+    expand_secret_key: ffi::expand_secret_key,
+    compact_secret_key: ffi::compact_secret_key,
     encapsulate: ffi::encapsulate,
     decapsulate: ffi::decapsulate,
     seal: ffi::seal,

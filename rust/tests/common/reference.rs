@@ -61,6 +61,12 @@ pub fn product(f: &[u32], g: &[u32]) -> Element {
     (0..N).map(|k| ((pairs[k] % q + q - pairs[k + N] % q) % q) as u32).collect()
 }
 
+fn one() -> Element {
+    let mut result = vec![0; N];
+    result[0] = 1;
+    result
+}
+
 /// Without leading zeros; the zero polynomial is empty.
 fn trimmed(mut f: Vec<u32>) -> Vec<u32> {
     while f.last() == Some(&0) {
@@ -339,15 +345,15 @@ fn put_header(mark: &[u8; 3], version: u8) -> Vec<u8> {
     bytes
 }
 
-/// 2, then 3.
-fn judge_header(mark: &[u8; 3], version: u8, record: &[u8]) -> Result<(), u32> {
+/// 2, then 3 unless it is one of these versions, which is given.
+fn judge_header(mark: &[u8; 3], versions: &[u8], record: &[u8]) -> Result<u8, u32> {
     if record[..3] != *mark {
         return Err(2);
     }
-    if record[3..5] != [version, 0] {
+    if record[4] != 0 || !versions.contains(&record[3]) {
         return Err(3);
     }
-    Ok(())
+    Ok(record[3])
 }
 
 /// Every buffer beside its length.
@@ -384,11 +390,11 @@ fn public_key_length(public_key: &[u8]) -> usize {
 /// The length picks the record.
 fn judge_public_key(record: &[u8]) -> Result<PublicKey, u32> {
     let (a, b) = if record.len() == 2085 {
-        judge_header(b"PDS", 1, record)?;
+        judge_header(b"PDS", &[1], record)?;
         let b = elements(4, "seeded_public_key", &["b"], &record[37..])?.pop().unwrap();
         (seeded(&record[5..37])?, b)
     } else {
-        judge_header(b"PDK", 1, record)?;
+        judge_header(b"PDK", &[1], record)?;
         let mut parts = elements(4, "public_key", &["a", "b"], &record[5..])?;
         let b = parts.pop().unwrap();
         (parts.pop().unwrap(), b)
@@ -397,13 +403,29 @@ fn judge_public_key(record: &[u8]) -> Result<PublicKey, u32> {
     Ok(PublicKey { a, b })
 }
 
-fn judge_secret_key(record: &[u8]) -> Result<SecretKey, u32> {
-    judge_header(b"SDK", 1, record)?;
-    let mut parts = elements(4, "secret_key", &["a", "b"], &record[5..4101])?;
+/// The first bytes of a secret key tell its version, and that its length: refused under 1, beside the other buffers, where they are missing.
+fn judge_start(secret_key: &[u8]) -> Result<(), u32> {
+    if secret_key.len() < 5 {
+        return Err(1);
+    }
+    Ok(())
+}
+
+/// A secret key of one of these versions: 2, 3, 1 for its version's length, 4, 5, 6 or 13, 7.
+fn judge_secret_key(versions: &[u8], record: &[u8]) -> Result<SecretKey, u32> {
+    let version = judge_header(b"SDK", versions, record)?;
+    judge_lengths(&[(record.len(), if version == 1 { 4357 } else { 6405 })])?;
+    let (front, stored) = record.split_at(4357);
+    let mut parts = elements(4, "secret_key", &["a", "b"], &front[5..4101])?;
     let b = parts.pop().unwrap();
     let a = parts.pop().unwrap();
-    let s = coded(&record[4101..])?.pop().unwrap();
-    let inverse_of_b = inverse(&b).ok_or(6u32)?;
+    let stored = elements(4, "secret_key", &["stored_inverse"], stored)?.pop();
+    let s = coded(&front[4101..])?.pop().unwrap();
+    let inverse_of_b = match stored {
+        None => inverse(&b).ok_or(6u32)?,
+        Some(stored) if product(&b, &stored) == one() => stored,
+        Some(_) => return Err(13),
+    };
     let e = difference(&multiple(reciprocal(5), &b), &product(&a, &s));
     if !is_short(&e) {
         return Err(7);
@@ -435,8 +457,9 @@ fn new_key(a: &[u32], noise_s: &[u8], noise_e: &[u8]) -> Result<(Element, Elemen
     Ok((b, s))
 }
 
-fn secret_key_bytes(a: &[u32], b: &[u32], s: &[u32]) -> Vec<u8> {
-    let mut record = put_header(b"SDK", 1);
+/// Up to s; version 2 has the inverse of b behind it.
+fn secret_key_bytes(version: u8, a: &[u32], b: &[u32], s: &[u32]) -> Vec<u8> {
+    let mut record = put_header(b"SDK", version);
     put_words(a, &mut record);
     put_words(b, &mut record);
     put_codes(s, &mut record);
@@ -519,7 +542,7 @@ pub fn keygen(stream: &[u8], noise_s: &[u8], noise_e: &[u8], public_key: &mut [u
         put_words(&a, &mut record);
         put_words(&b, &mut record);
         public_key.copy_from_slice(&record);
-        secret_key.copy_from_slice(&secret_key_bytes(&a, &b, &s));
+        secret_key.copy_from_slice(&secret_key_bytes(1, &a, &b, &s));
         Ok(())
     };
     code(work())
@@ -535,7 +558,7 @@ pub fn keygen_from_seed(seed: &[u8], noise_s: &[u8], noise_e: &[u8], public_key:
         record.extend_from_slice(seed);
         put_words(&b, &mut record);
         public_key.copy_from_slice(&record);
-        secret_key.copy_from_slice(&secret_key_bytes(&a, &b, &s));
+        secret_key.copy_from_slice(&secret_key_bytes(1, &a, &b, &s));
         Ok(())
     };
     code(work())
@@ -543,8 +566,32 @@ pub fn keygen_from_seed(seed: &[u8], noise_s: &[u8], noise_e: &[u8], public_key:
 
 pub fn check_secret_key(secret_key: &[u8]) -> u32 {
     let work = || {
+        judge_start(secret_key)?;
+        judge_secret_key(&[1, 2], secret_key)?;
+        Ok(())
+    };
+    code(work())
+}
+
+pub fn expand_secret_key(secret_key: &[u8], expanded: &mut [u8]) -> u32 {
+    let mut work = || {
+        judge_start(secret_key)?;
+        judge_lengths(&[(expanded.len(), 6405)])?;
+        let key = judge_secret_key(&[1], secret_key)?;
+        let mut record = secret_key_bytes(2, &key.a, &key.b, &key.s);
+        put_words(&key.inverse_of_b, &mut record);
+        expanded.copy_from_slice(&record);
+        Ok(())
+    };
+    code(work())
+}
+
+pub fn compact_secret_key(expanded: &[u8], secret_key: &mut [u8]) -> u32 {
+    let mut work = || {
+        judge_start(expanded)?;
         judge_lengths(&[(secret_key.len(), 4357)])?;
-        judge_secret_key(secret_key)?;
+        let key = judge_secret_key(&[2], expanded)?;
+        secret_key.copy_from_slice(&secret_key_bytes(1, &key.a, &key.b, &key.s));
         Ok(())
     };
     code(work())
@@ -567,8 +614,9 @@ pub fn encapsulate(public_key: &[u8], triple: &[u8], encapsulation: &mut [u8]) -
 
 pub fn decapsulate(secret_key: &[u8], encapsulation: &[u8], dummy: &[u8], triple: &mut [u8]) -> u32 {
     let mut work = || {
-        judge_lengths(&[(secret_key.len(), 4357), (encapsulation.len(), 4096), (dummy.len(), 768), (triple.len(), 768)])?;
-        let key = judge_secret_key(secret_key)?;
+        judge_start(secret_key)?;
+        judge_lengths(&[(encapsulation.len(), 4096), (dummy.len(), 768), (triple.len(), 768)])?;
+        let key = judge_secret_key(&[1, 2], secret_key)?;
         let capsule = elements(11, "encapsulation", &["c1", "c2"], encapsulation)?;
         let dummy = three(coded(dummy)?);
         let answer = opened(&key, &capsule[0], &capsule[1], &dummy)?;
@@ -599,9 +647,10 @@ pub fn seal(public_key: &[u8], noise: &[u8], entry: &[u8], sealed: &mut [u8]) ->
 
 pub fn open(secret_key: &[u8], sealed: &[u8], dummy_noise: &[u8], entry: &mut [u8]) -> u32 {
     let mut work = || {
-        judge_lengths(&[(secret_key.len(), 4357), (sealed.len(), 4133), (dummy_noise.len(), 1536), (entry.len(), 16)])?;
-        let key = judge_secret_key(secret_key)?;
-        judge_header(b"PLG", 1, sealed)?;
+        judge_start(secret_key)?;
+        judge_lengths(&[(sealed.len(), 4133), (dummy_noise.len(), 1536), (entry.len(), 16)])?;
+        let key = judge_secret_key(&[1, 2], secret_key)?;
+        judge_header(b"PLG", &[1], sealed)?;
         let capsule = elements(11, "sealed_entry", &["c1", "c2"], &sealed[5..4101])?;
         let triple = opened(&key, &capsule[0], &capsule[1], &triple_from_noise(dummy_noise))?;
         let (pad, k1, k2) = derived(&triple, 16);
@@ -645,9 +694,10 @@ pub fn open_batch(secret_key: &[u8], batch: &[u8], dummy_noise: &[u8], entries: 
         if batch.len() < 4119 {
             return Err(1);
         }
-        judge_lengths(&[(secret_key.len(), 4357), (dummy_noise.len(), 1536), (entries.len(), 4080)])?;
-        let key = judge_secret_key(secret_key)?;
-        judge_header(b"PLG", 2, batch)?;
+        judge_start(secret_key)?;
+        judge_lengths(&[(dummy_noise.len(), 1536), (entries.len(), 4080)])?;
+        let key = judge_secret_key(&[1, 2], secret_key)?;
+        judge_header(b"PLG", &[2], batch)?;
         let m = usize::from(batch[4101]) + 256 * usize::from(batch[4102]);
         judge_count(m)?;
         judge_lengths(&[(batch.len(), 4119 + 16 * m)])?;

@@ -101,6 +101,14 @@ pub fn compare_check_secret_key(calls: &Calls) {
     compare(calls, "vectors, check_secret_key", "check_secret_key", Call::CheckSecretKey, 1, 0);
 }
 
+pub fn compare_expand_secret_key(calls: &Calls) {
+    compare(calls, "vectors, expand_secret_key", "expand_secret_key", Call::ExpandSecretKey, 1, 1);
+}
+
+pub fn compare_compact_secret_key(calls: &Calls) {
+    compare(calls, "vectors, compact_secret_key", "compact_secret_key", Call::CompactSecretKey, 1, 1);
+}
+
 pub fn compare_encapsulate(calls: &Calls) {
     compare(calls, "vectors, encapsulate", "encapsulate", Call::Encapsulate, 2, 1);
 }
@@ -142,6 +150,10 @@ pub fn compare_shake256(calls: &Calls) {
 pub fn desk_line(calls: &Calls, input: &[u8]) -> (u32, String) {
     if input.len() != 10_026 {
         return (1, "1 -\n".into());
+    }
+    // the desk takes version 1 alone; the call would miss the rest of a key of version 2
+    if input.starts_with(b"SDK\x02\x00") {
+        return (3, "3 -\n".into());
     }
     let inputs = vec![input[..4357].to_vec(), input[4357..8490].to_vec(), input[8490..].to_vec()];
     let Outcome { code, outputs, .. } = run(calls, &Case { name: "desk".into(), call: Call::Open, inputs, outputs: vec![16] });

@@ -179,6 +179,10 @@ fn has_zero(a: &Element) -> bool {
     a.iter().fold(false, |any, &x| any | (x == 0))
 }
 
+fn all_one(a: &Element) -> bool {
+    a.iter().fold(true, |all, &x| all & (x == 1))
+}
+
 /// A tree of products, level by level, the reciprocal of its top, and the way back down.
 pub fn reciprocals(t: &Element) -> Element {
     let mut tree = [0u16; 2048];
@@ -472,6 +476,7 @@ const SEALED_ENTRY: u32 = 4 << 12 | 11;
 const ENCAPSULATION: u32 = 5 << 12 | 11;
 const A: u32 = 1 << 8;
 const B: u32 = 2 << 8;
+const STORED_INVERSE: u32 = 3 << 8;
 const C1: u32 = 4 << 8;
 const C2: u32 = 5 << 8;
 
@@ -522,31 +527,56 @@ fn judge_public_key(record: &[u8], w: &Factors) -> Result<PublicKey, u32> {
     Ok(PublicKey { a: forward(&a, w), b })
 }
 
-/// Spectra of a, b, s.
+/// Spectra of a, b, s and, where it is stored, the inverse of b.
 struct SecretKey {
     a: Element,
     b: Element,
     s: Element,
+    inverse: Option<Element>,
 }
 
-fn judge_secret_key(record: &[u8], w: &Factors, v: &Factors) -> Result<SecretKey, u32> {
-    judge_header(record, b"SDK", 1)?;
+/// Whether there are mark and version, which tell the length.
+fn has_header(secret_key: &[u8]) -> bool {
+    secret_key.len() >= 5
+}
+
+/// Of one of these versions. Not inlined an opening takes a twentieth more.
+#[inline(always)]
+fn judge_secret_key(record: &[u8], versions: &[u8], w: &Factors, v: &Factors) -> Result<SecretKey, u32> {
+    let version = *versions.iter().find(|&&version| record[3..5] == [version, 0]).unwrap_or(&versions[0]);
+    judge_header(record, b"SDK", version)?;
+    if record.len() != if version == 1 { 4357 } else { 6405 } {
+        return Err(1);
+    }
     let (a, b) = (words(&record[5..2053]), words(&record[2053..4101]));
     judge_words(SECRET_KEY, &[(A, &a), (B, &b)])?;
-    if !codes_valid(&record[4101..]) {
+    let stored = (version == 2).then(|| words(&record[4357..]));
+    if let Some(stored) = &stored {
+        judge_words(SECRET_KEY, &[(STORED_INVERSE, stored)])?;
+    }
+    if !codes_valid(&record[4101..4357]) {
         return Err(5);
     }
     let spectrum_b = forward(&b, w);
-    if has_zero(&spectrum_b) {
-        return Err(6);
+    let inverse = stored.map(|stored| forward(&stored, w));
+    match &inverse {
+        Some(inverse) if !all_one(&pointwise(&spectrum_b, inverse)) => return Err(13),
+        None if has_zero(&spectrum_b) => return Err(6),
+        _ => {}
     }
-    let (spectrum_a, spectrum_s) = (forward(&a, w), forward(&decode(&record[4101..]), w));
+    let (spectrum_a, spectrum_s) = (forward(&a, w), forward(&decode(&record[4101..4357]), w));
     let a_s = backward_product(&spectrum_a, &spectrum_s, v);
     let e = difference(&multiple(to_montgomery(35_636), &b), &a_s);
     if !within(1, &e) {
         return Err(7);
     }
-    Ok(SecretKey { a: spectrum_a, b: spectrum_b, s: spectrum_s })
+    Ok(SecretKey { a: spectrum_a, b: spectrum_b, s: spectrum_s, inverse })
+}
+
+/// For the conversions: inlined the first takes an eighth more.
+#[inline(never)]
+fn judge_apart(record: &[u8], version: u8, w: &Factors, v: &Factors) -> Result<SecretKey, u32> {
+    judge_secret_key(record, &[version], w, v)
 }
 
 /// Reading ends at the word that completes the polynomial.
@@ -586,7 +616,7 @@ fn put_secret_key(record: &mut [u8], a: &Element, b: &Element, s: &Element) {
     put_header(record, b"SDK", 1);
     put_words(a, &mut record[5..2053]);
     put_words(b, &mut record[2053..4101]);
-    encode(s, &mut record[4101..]);
+    encode(s, &mut record[4101..4357]);
 }
 
 // ---- encapsulation and decapsulation on spectra of the key
@@ -596,14 +626,16 @@ fn capsule(a: &Element, b: &Element, triple: &[Element; 3], w: &Factors, v: &Fac
     [sum(&backward_product(a, &r, v), &triple[1]), sum(&backward_product(b, &r, v), &triple[2])]
 }
 
-/// Four more transforms forward and three back, after the key check's three and one: the sums of step 1 are kept as spectra.
+/// Four more transforms forward and three back, after the key check's three and one, or four and one where the inverse of b is stored: the
+/// sums of step 1 are kept as spectra.
 fn opened(key: &SecretKey, c1: &Element, c2: &Element, dummy: &[Element; 3], w: &Factors, v: &Factors) -> Option<[Element; 3]> {
     let dummy_r = forward(&dummy[0], w);
     let first = sum(&pointwise(&key.a, &dummy_r), &forward(&sum(c1, &dummy[1]), w));
     let second = sum(&pointwise(&key.b, &dummy_r), &forward(&sum(c2, &dummy[2]), w));
     let m = backward(&difference(&second, &multiple(to_montgomery(5), &pointwise(&first, &key.s))), v);
     let e2 = remainders(&m);
-    let spectrum_r = pointwise(&difference(&second, &forward(&e2, w)), &reciprocals(&key.b));
+    let inverse = key.inverse.unwrap_or_else(|| reciprocals(&key.b));
+    let spectrum_r = pointwise(&difference(&second, &forward(&e2, w)), &inverse);
     let r = backward(&spectrum_r, v);
     let e1 = backward(&difference(&first, &pointwise(&key.a, &spectrum_r)), v);
     let near = within(2, &r) & within(2, &e1);
@@ -652,10 +684,37 @@ pub fn keygen_from_seed(seed: &[u8], noise_s: &[u8], noise_e: &[u8], public_key:
 }
 
 pub fn check_secret_key(secret_key: &[u8]) -> u32 {
-    if secret_key.len() != 4357 {
+    if !has_header(secret_key) {
         return 1;
     }
-    judge_secret_key(secret_key, &forward_factors(), &backward_factors()).err().unwrap_or(0)
+    judge_secret_key(secret_key, &[1, 2], &forward_factors(), &backward_factors()).err().unwrap_or(0)
+}
+
+pub fn expand_secret_key(secret_key: &[u8], expanded: &mut [u8]) -> u32 {
+    if !has_header(secret_key) || expanded.len() != 6405 {
+        return 1;
+    }
+    let (w, v) = (forward_factors(), backward_factors());
+    let key = match judge_apart(secret_key, 1, &w, &v) {
+        Ok(key) => key,
+        Err(code) => return code,
+    };
+    put_header(expanded, b"SDK", 2);
+    expanded[5..4357].copy_from_slice(&secret_key[5..]);
+    put_words(&backward(&reciprocals(&key.b), &v), &mut expanded[4357..]);
+    0
+}
+
+pub fn compact_secret_key(expanded: &[u8], secret_key: &mut [u8]) -> u32 {
+    if !has_header(expanded) || secret_key.len() != 4357 {
+        return 1;
+    }
+    if let Err(code) = judge_apart(expanded, 2, &forward_factors(), &backward_factors()) {
+        return code;
+    }
+    put_header(secret_key, b"SDK", 1);
+    secret_key[5..].copy_from_slice(&expanded[5..4357]);
+    0
 }
 
 pub fn encapsulate(public_key: &[u8], triple: &[u8], encapsulation: &mut [u8]) -> u32 {
@@ -678,11 +737,11 @@ pub fn encapsulate(public_key: &[u8], triple: &[u8], encapsulation: &mut [u8]) -
 }
 
 pub fn decapsulate(secret_key: &[u8], encapsulation: &[u8], dummy: &[u8], triple: &mut [u8]) -> u32 {
-    if secret_key.len() != 4357 || encapsulation.len() != 4096 || dummy.len() != 768 || triple.len() != 768 {
+    if !has_header(secret_key) || encapsulation.len() != 4096 || dummy.len() != 768 || triple.len() != 768 {
         return 1;
     }
     let (w, v) = (forward_factors(), backward_factors());
-    let key = match judge_secret_key(secret_key, &w, &v) {
+    let key = match judge_secret_key(secret_key, &[1, 2], &w, &v) {
         Ok(key) => key,
         Err(code) => return code,
     };
@@ -729,7 +788,7 @@ pub fn seal(public_key: &[u8], noise: &[u8], entry: &[u8], sealed: &mut [u8]) ->
 #[inline(always)]
 fn opened_record(secret_key: &[u8], front: Result<(), u32>, record: &[u8], dummy_noise: &[u8]) -> Result<[u8; 768], u32> {
     let (w, v) = (forward_factors(), backward_factors());
-    let key = judge_secret_key(secret_key, &w, &v)?;
+    let key = judge_secret_key(secret_key, &[1, 2], &w, &v)?;
     front?;
     let (c1, c2) = (words(&record[5..2053]), words(&record[2053..4101]));
     judge_words(SEALED_ENTRY, &[(C1, &c1), (C2, &c2)])?;
@@ -738,7 +797,7 @@ fn opened_record(secret_key: &[u8], front: Result<(), u32>, record: &[u8], dummy
 }
 
 pub fn open(secret_key: &[u8], sealed: &[u8], dummy_noise: &[u8], entry: &mut [u8]) -> u32 {
-    if secret_key.len() != 4357 || sealed.len() != 4133 || dummy_noise.len() != 1536 || entry.len() != 16 {
+    if !has_header(secret_key) || sealed.len() != 4133 || dummy_noise.len() != 1536 || entry.len() != 16 {
         return 1;
     }
     let triple = match opened_record(secret_key, judge_header(sealed, b"PLG", 1), sealed, dummy_noise) {
@@ -797,7 +856,7 @@ fn judge_batch_front(batch: &[u8], m: usize) -> Result<(), u32> {
 }
 
 pub fn open_batch(secret_key: &[u8], batch: &[u8], dummy_noise: &[u8], entries: &mut [u8], count: &mut u32) -> u32 {
-    if secret_key.len() != 4357 || batch.len() < 4119 || dummy_noise.len() != 1536 || entries.len() != 4080 {
+    if !has_header(secret_key) || batch.len() < 4119 || dummy_noise.len() != 1536 || entries.len() != 4080 {
         return 1;
     }
     let m = usize::from(u16::from_le_bytes([batch[4101], batch[4102]]));

@@ -1,6 +1,6 @@
 //! The proved library beside its peers, all in one run: SHAKE128 and SHAKE256 beside OpenSSL's, every call beside the same algorithm in
-//! Rust, keys, sealing and opening beside Botan's NewHope-1024, and an entry of a batch beside one alone. The two sides of a line take
-//! turns, and the least time of each counts.
+//! Rust, keys, sealing and opening beside Botan's NewHope-1024, an entry of a batch beside one alone, and opening with an expanded key
+//! beside opening with a plain one. The two sides of a line take turns, and the least time of each counts.
 mod botan;
 mod fast;
 #[allow(dead_code)]
@@ -104,6 +104,7 @@ struct Records {
     public_key: Vec<u8>,
     seeded_public_key: Vec<u8>,
     secret_key: Vec<u8>,
+    expanded_key: Vec<u8>,
     triple: Vec<u8>,
     encapsulation: Vec<u8>,
     noise: Vec<u8>,
@@ -133,6 +134,8 @@ impl Records {
         let mut stream = vec![0; 2688];
         ffi::shake128(&seed, &mut stream);
         assert_eq!(ffi::keygen(&stream, &noise_s, &noise_e, &mut public_key, &mut secret_key), 0);
+        let mut expanded_key = vec![0; 6405];
+        assert_eq!(ffi::expand_secret_key(&secret_key, &mut expanded_key), 0);
         assert_eq!(ffi::encapsulate(&public_key, &triple, &mut encapsulation), 0);
         assert_eq!(ffi::seal(&public_key, &noise, &entry, &mut sealed), 0);
         let entries = bytes(8, 4080);
@@ -149,6 +152,7 @@ impl Records {
             public_key,
             seeded_public_key,
             secret_key,
+            expanded_key,
             triple,
             encapsulation,
             noise,
@@ -198,11 +202,6 @@ impl Records {
                 assert!(sealed == self.sealed, "the sealed entries differ");
             }
         }
-        for open in [ffi::open, fast::open] {
-            let mut entry = vec![0; 16];
-            assert_eq!(open(&self.secret_key, &self.sealed, &self.dummy_noise, &mut entry), 0);
-            assert!(entry == self.entry, "the entries differ");
-        }
         for (count, expected) in &self.batches {
             for public_key in [&self.public_key, &self.seeded_public_key] {
                 for seal_batch in [ffi::seal_batch, fast::seal_batch] {
@@ -211,16 +210,45 @@ impl Records {
                     assert!(batch == *expected, "the batches differ");
                 }
             }
+        }
+        let conversions: [(OneIn, &[u8], &[u8]); 3] = [
+            (fast::expand_secret_key, &self.secret_key, &self.expanded_key),
+            (ffi::compact_secret_key, &self.expanded_key, &self.secret_key),
+            (fast::compact_secret_key, &self.expanded_key, &self.secret_key),
+        ];
+        for (convert, key, expected) in conversions {
+            let mut out = vec![0; expected.len()];
+            assert_eq!(convert(key, &mut out), 0);
+            assert!(out == expected, "the converted keys differ");
+        }
+        for key in self.secret_keys() {
+            self.opens(key);
+        }
+    }
+
+    /// Without the inverse of b, and with it.
+    fn secret_keys(&self) -> [&[u8]; 2] {
+        [&self.secret_key, &self.expanded_key]
+    }
+
+    /// With either version of the secret key.
+    fn opens(&self, secret_key: &[u8]) {
+        for open in [ffi::open, fast::open] {
+            let mut entry = vec![0; 16];
+            assert_eq!(open(secret_key, &self.sealed, &self.dummy_noise, &mut entry), 0);
+            assert!(entry == self.entry, "the entries differ");
+        }
+        for (count, expected) in &self.batches {
             for open_batch in [ffi::open_batch, fast::open_batch] {
                 let (mut entries, mut opened) = (vec![0; 4080], 0);
-                assert_eq!(open_batch(&self.secret_key, expected, &self.dummy_noise, &mut entries, &mut opened), 0);
+                assert_eq!(open_batch(secret_key, expected, &self.dummy_noise, &mut entries, &mut opened), 0);
                 let same = opened as usize == *count && entries[..16 * count] == self.entries[..16 * count];
                 assert!(same, "the entries of a batch differ");
             }
         }
         for decapsulate in [ffi::decapsulate, fast::decapsulate] {
             let mut triple = vec![0; 768];
-            assert_eq!(decapsulate(&self.secret_key, &self.encapsulation, &self.triple, &mut triple), 0);
+            assert_eq!(decapsulate(secret_key, &self.encapsulation, &self.triple, &mut triple), 0);
             assert!(triple == self.triple, "the triples differ");
         }
     }
@@ -229,6 +257,7 @@ impl Records {
 type Keygen = fn(&[u8], &[u8], &[u8], &mut [u8], &mut [u8]) -> u32;
 type ThreeIn = fn(&[u8], &[u8], &[u8], &mut [u8]) -> u32;
 type OpenBatch = fn(&[u8], &[u8], &[u8], &mut [u8], &mut u32) -> u32;
+type OneIn = fn(&[u8], &mut [u8]) -> u32;
 type TwoIn = fn(&[u8], &[u8], &mut [u8]) -> u32;
 
 /// `source` is a stream or a seed.
@@ -261,6 +290,15 @@ fn open_batch_of<'a>(call: OpenBatch, batch: &'a [u8], records: &'a Records) -> 
     }
 }
 
+fn one_in<'a>(call: OneIn, input: &'a [u8], output: usize) -> impl FnMut() + 'a {
+    let mut out = vec![0; output];
+    move || assert_eq!(call(black_box(input), black_box(&mut out)), 0)
+}
+
+fn check_of(call: fn(&[u8]) -> u32, key: &[u8]) -> impl FnMut() + '_ {
+    move || assert_eq!(call(black_box(key)), 0)
+}
+
 fn two_in<'a>(call: TwoIn, inputs: [&'a [u8]; 2], output: usize) -> impl FnMut() + 'a {
     let mut out = vec![0; output];
     move || assert_eq!(call(black_box(inputs[0]), black_box(inputs[1]), black_box(&mut out)), 0)
@@ -271,7 +309,7 @@ const CALLS: u32 = 10;
 
 fn beside_rust(records: &Records) {
     heading("Calls beside the same algorithm in Rust");
-    let Records { seed, stream, public_key, seeded_public_key, secret_key, triple, .. } = records;
+    let Records { seed, stream, public_key, seeded_public_key, secret_key, expanded_key, triple, .. } = records;
     let Records { encapsulation, noise, entry, sealed, dummy_noise, .. } = records;
     let product = |call| two_in(call, records.elements(), 2048);
     line("product", in_turn(ROUNDS, CALLS, product(product::product), product(fast::product)));
@@ -279,20 +317,30 @@ fn beside_rust(records: &Records) {
     line("key generation", in_turn(ROUNDS, CALLS, keygen(ffi::keygen), keygen(fast::keygen)));
     let keygen = |call| keygen_of(call, seed, records, 2085);
     line("key generation from a seed", in_turn(ROUNDS, CALLS, keygen(ffi::keygen_from_seed), keygen(fast::keygen_from_seed)));
-    let check = |call: fn(&[u8]) -> u32| move || assert_eq!(call(black_box(secret_key)), 0);
-    line("key check", in_turn(ROUNDS, CALLS, check(ffi::check_secret_key), check(fast::check_secret_key)));
+    for (what, key) in [("key check", secret_key), ("key check, expanded key", expanded_key)] {
+        let check = |call| check_of(call, key);
+        line(what, in_turn(ROUNDS, CALLS, check(ffi::check_secret_key), check(fast::check_secret_key)));
+    }
+    let expand = |call| one_in(call, secret_key, 6405);
+    line("expand a key", in_turn(ROUNDS, CALLS, expand(ffi::expand_secret_key), expand(fast::expand_secret_key)));
+    let compact = |call| one_in(call, expanded_key, 4357);
+    line("compact a key", in_turn(ROUNDS, CALLS, compact(ffi::compact_secret_key), compact(fast::compact_secret_key)));
     for (what, key) in [("encapsulate", public_key), ("encapsulate, seeded public key", seeded_public_key)] {
         let encapsulate = |call| two_in(call, [key, triple], 4096);
         line(what, in_turn(ROUNDS, CALLS, encapsulate(ffi::encapsulate), encapsulate(fast::encapsulate)));
     }
-    let decapsulate = |call| three_in(call, [secret_key, encapsulation, triple], 768);
-    line("decapsulate", in_turn(ROUNDS, CALLS, decapsulate(ffi::decapsulate), decapsulate(fast::decapsulate)));
+    for (what, key) in [("decapsulate", secret_key), ("decapsulate, expanded key", expanded_key)] {
+        let decapsulate = |call| three_in(call, [key, encapsulation, triple], 768);
+        line(what, in_turn(ROUNDS, CALLS, decapsulate(ffi::decapsulate), decapsulate(fast::decapsulate)));
+    }
     for (what, key) in [("seal", public_key), ("seal, seeded public key", seeded_public_key)] {
         let seal = |call| three_in(call, [key, noise, entry], 4133);
         line(what, in_turn(ROUNDS, CALLS, seal(ffi::seal), seal(fast::seal)));
     }
-    let open = |call| three_in(call, [secret_key, sealed, dummy_noise], 16);
-    line("open", in_turn(ROUNDS, CALLS, open(ffi::open), open(fast::open)));
+    for (what, key) in [("open", secret_key), ("open, expanded key", expanded_key)] {
+        let open = |call| three_in(call, [key, sealed, dummy_noise], 16);
+        line(what, in_turn(ROUNDS, CALLS, open(ffi::open), open(fast::open)));
+    }
     for (count, _) in &records.batches {
         let seal_batch = |call| seal_batch_of(call, public_key, *count, records);
         line(&format!("seal a batch of {count}"), in_turn(ROUNDS, CALLS, seal_batch(ffi::seal_batch), seal_batch(fast::seal_batch)));
@@ -323,9 +371,23 @@ fn entries_of_batches(records: &Records) {
     }
 }
 
+/// What the stored inverse saves, and what its own check costs.
+fn with_an_expanded_key(records: &Records) {
+    columns("A call with an expanded key beside the same with a plain one", ["expanded", "plain", "plain/exp."]);
+    let Records { triple, encapsulation, sealed, dummy_noise, .. } = records;
+    let both = |what: &str, [plain, expanded]: [&mut dyn FnMut(); 2]| line(what, in_turn(ROUNDS, CALLS, expanded, plain));
+    let keys = records.secret_keys();
+    let [mut plain, mut expanded] = keys.map(|key| check_of(ffi::check_secret_key, key));
+    both("key check", [&mut plain, &mut expanded]);
+    let [mut plain, mut expanded] = keys.map(|key| three_in(ffi::decapsulate, [key, encapsulation, triple], 768));
+    both("decapsulate", [&mut plain, &mut expanded]);
+    let [mut plain, mut expanded] = keys.map(|key| three_in(ffi::open, [key, sealed, dummy_noise], 16));
+    both("open", [&mut plain, &mut expanded]);
+}
+
 /// Where the time goes, by the peer in Rust: the archive exports whole calls only.
 fn parts(records: &Records) {
-    println!("\nParts of the calls, in Rust");
+    println!("\nParts of the calls, in Rust; of two counts for open the second is with an expanded key");
     let alone = |what: &str, call: &mut dyn FnMut()| {
         let least = (0..ROUNDS).fold(f64::MAX, |least, _| least.min(time(20, &mut || call())));
         println!("{what:<44} {least:>12.0}");
@@ -335,16 +397,16 @@ fn parts(records: &Records) {
     alone("both tables of factors (once a call)", &mut || {
         black_box((fast::forward_factors(), fast::backward_factors()));
     });
-    alone("transform forward (seal 3, open 7)", &mut || {
+    alone("transform forward (seal 3, open 7 or 8)", &mut || {
         black_box(fast::forward(black_box(&a), &w));
     });
     alone("transform backward (seal 2, open 4)", &mut || {
         black_box(fast::backward(black_box(&a), &v));
     });
-    alone("product of spectra (seal 2, open 6)", &mut || {
+    alone("product of spectra (seal 2, open 6 or 7)", &mut || {
         black_box(fast::pointwise(black_box(&a), black_box(&a)));
     });
-    alone("1,024 reciprocals (open 1)", &mut || {
+    alone("1,024 reciprocals (open 1 or 0)", &mut || {
         black_box(fast::reciprocals(black_box(&a)));
     });
     alone("remainders by 5 (open 1)", &mut || {
@@ -427,6 +489,7 @@ fn main() {
     let records = Records::new();
     beside_rust(&records);
     entries_of_batches(&records);
+    with_an_expanded_key(&records);
     parts(&records);
     if cfg!(target_arch = "x86_64") {
         beside_newhope(&records);
