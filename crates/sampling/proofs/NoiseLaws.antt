@@ -5,7 +5,7 @@ use Prim.Native.Nat.{ℕ, _*_, _<_, _≤_}
 use native.Mathlib.Nat.{le-trans}
 use native.Mathlib.Omega.{arith}
 use lib.Dec.{leb, leb→le}
-use lib.IntN.{natAbs}
+use lib.IntN.{pos, natAbs}
 use lib.ListN.{getD, take}
 use Rattle.lists.proofs.Finite.{at-each}
 use Rattle.lists.proofs.Tables.{getD-table, table-same}
@@ -22,9 +22,9 @@ pub fourBits-small : (t : ℕ) → t < 16 → natAbs (fourBits t) ≤ 1
 unfolding fourBits folded
 fourBits-small t h = leb→le (natAbs (fourBits t)) 1 (at-each 16 (λ k. leb (natAbs (fourBits k)) 1) tt t h)
 
-pub noise-none : noiseCoefficient 0 ≡ 0
-unfolding noiseCoefficient fourBits folded residue
-noise-none = refl
+pub fourBits-none : fourBits 0 ≡ pos 0
+unfolding fourBits folded
+fourBits-none = refl
 
 -- ---- n coefficients, by any rule
 
