@@ -34,15 +34,18 @@ else
 fi
 
 # The list that -s prints at the end of a report, as lines "KIND FUNCTION SECRET PLACES TIMES ADDRESSES". Each error there is a line
-# "N errors in context ..", its kind, its frames, and the driver's function that marked the secret.
+# "N errors in context ..", its kind, its frames, and the driver's function that marked the secret. One place may have several, by what
+# stood on the stack, and counts once.
 by_function() {
     awk '
         function show() {
             if (count == "") return
             key = kind " " function_name " " secret
-            places[key]++
             times[key] += count
-            addresses[key] = addresses[key] " " address
+            if (!known[key, address]++) {
+                places[key]++
+                addresses[key] = addresses[key] " " address
+            }
             count = ""
         }
         /errors in context/ { show(); count = $2; kind = "other"; function_name = ""; secret = "?"; origin = 0; next }
