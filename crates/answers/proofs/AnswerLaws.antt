@@ -166,6 +166,11 @@ names-either (Refused r) b some = (λ e. inl e, ⊎-elim (λ e. e) (λ (p, e). a
 pub on-done : {A : Type 0} {a : Answer} (new old : A) → a ≡ Done → onDone a new old ≡ new
 on-done new old e = rw e
 
+-- a value beside an answer, written by the same answer
+pub on-done-once : {A : Type 0} (a : Answer) (new none old : A) → onDone a (onDone a new none) old ≡ onDone a new old
+on-done-once Done new none old = refl
+on-done-once (Refused r) new none old = refl
+
 -- under any other number nothing has changed
 pub on-refusal : {A : Type 0} (a : Answer) (new old : A) → ¬ (number a ≡ 0) → onDone a new old ≡ old
 on-refusal Done new old other = absurd (other refl)

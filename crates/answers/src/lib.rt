@@ -2,7 +2,7 @@
 // the checks.
 ghost use mathlib.Core.Path.{_≡_};
 ghost use Rattle.answers.specs.declared.Answer.the-variants.{Done};
-ghost use Rattle.answers.specs.Answers.{refusalNumber, number, unless, andThen};
+ghost use Rattle.answers.specs.Answers.{refusalNumber, number, unless, andThen, onDone};
 ghost use Rattle.answers.specs.Locations.{inKeyPart, inKey, inEncapsulationPart, inEncapsulation, refusalLocation, location, code};
 
 // ---- answers
@@ -213,4 +213,25 @@ pub fn and_then(first: Answer, second: Answer) -> Answer
         return second;
     }
     first
+}
+
+// ---- a value beside an answer
+
+// The value under Done, and 0 beside a refusal.
+pub fn shown(answer: Answer, value: u32) -> u32
+    ensures { λ r. ⌜ r ≡ onDone answer value 0 ⌝ }
+{
+    if let Answer::Done = answer {
+        return value;
+    }
+    0
+}
+
+// Writes the value to a lent number under Done; beside a refusal that stays as it came.
+pub fn write_value(answer: Answer, value: u32, out: &mut u32)
+    ensures { λ _. ⌜ now (out .exit) ≡ onDone answer value (now (out .entry)) ⌝ }
+{
+    if let Answer::Done = answer {
+        *out = value;
+    }
 }

@@ -15,6 +15,7 @@ use Rattle.answers.specs.declared.Refusal.the-variants.{WrongLength, WrongCount
 use Rattle.answers.specs.declared.Answer.{Answer}
 use Rattle.answers.specs.declared.Answer.the-variants.{Done, Refused}
 use Rattle.answers.specs.Answers.{unless, andThen, onDone}
+use Rattle.answers.proofs.AnswerLaws.{on-done-once}
 use Rattle.records.specs.Layout.{headerLength, sealedEntryMark}
 use Rattle.records.specs.Records.{headerAnswer, c1Word, c2Word, elementsAnswer, firstOf, secondOf}
 use Rattle.batch_records.specs.Batches.{bodyPlace, batchOverhead, batchLength, entriesLength, countOf, countBlock, count?, batchBody, batchTag, taggedBlocks, batchAnswer}
@@ -137,11 +138,7 @@ module _ (k batch noise : List ℕ) (room : ℕ) where
       → onDone a m lent ≡ openBatchCount k batch noise room lent
   unfolding openBatchCount
   count-written lent ea em =
-      ap₂ (λ (a : Answer) (m : ℕ). onDone a m lent) ea em ∙ once (openBatchAnswer k batch noise room) (countOf batch) lent
-    where
-      once : (a : Answer) (m lent : ℕ) → onDone a (onDone a m 0) lent ≡ onDone a m lent
-      once Done m lent = refl
-      once (Refused r) m lent = refl
+      ap₂ (λ (a : Answer) (m : ℕ). onDone a m lent) ea em ∙ on-done-once (openBatchAnswer k batch noise room) (countOf batch) 0 lent
 
 -- the output by what is said
 pub out-by : (k batch noise out : List ℕ) {a : Answer} → a ≡ openBatchAnswer k batch noise (length out)

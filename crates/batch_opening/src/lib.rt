@@ -24,17 +24,6 @@ pub struct OpenedBatch {
     pub count: u32,
 }
 
-// The count beside an answer.
-fn count_shown(answer: Answer, m: usize) -> u32
-    requires { ⌜ m ≤ 65535 ⌝ }
-    ensures { λ n. ⌜ n ≡ onDone answer m 0 ⌝ }
-{
-    if let Answer::Done = answer {
-        return m as u32;
-    }
-    0
-}
-
 // Of any key, and a batch, noise and an output that fit. A batch whose length does not fit its count is refused as it is read, and opened without a
 // body.
 fn open_records(key: &[u8], batch: &[u8], noise: &[u8], out: &mut [u8]) -> OpenedBatch
@@ -47,7 +36,7 @@ fn open_records(key: &[u8], batch: &[u8], noise: &[u8], out: &mut [u8]) -> Opene
     let between = batch_records::count_answer(m, batch.len());
     let size = batch_records::body_length(m, batch.len());
     let l = batch_records::count_block(m);
-    let answer = opening::open_sealed(
+    let opened = opening::open_sealed(
         key,
         batch,
         BATCH_VERSION,
@@ -58,9 +47,10 @@ fn open_records(key: &[u8], batch: &[u8], noise: &[u8], out: &mut [u8]) -> Opene
         &batch[BODY + size..BATCH_OVERHEAD + size],
         &mut out[0..size],
     );
+    let answer = opened.answer;
     OpenedBatch {
         answer,
-        count: count_shown(answer, m),
+        count: answers::shown(answer, m as u32),
     }
 }
 
@@ -83,14 +73,4 @@ pub fn open_batch(key: &[u8], batch: &[u8], noise: &[u8], out: &mut [u8]) -> Ope
         };
     }
     open_records(key, batch, noise, out)
-}
-
-// Writes the count of a batch that was opened to a lent number, which else stays as it came.
-pub fn write_count(opened: OpenedBatch, out: &mut u32)
-    ensures { λ _. ⌜ now (out .exit) ≡ onDone (opened .answer) (opened .count) (now (out .entry)) ⌝ }
-{
-    let answer = opened.answer;
-    if let Answer::Done = answer {
-        *out = opened.count;
-    }
 }

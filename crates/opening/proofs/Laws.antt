@@ -7,10 +7,11 @@ use lib.ListN.{length}
 use Rattle.lists.proofs.Equal.{ap₃, ap₄}
 use Rattle.ntt.specs.Spectrum.{spectrumOf, coefficientsOf}
 use Rattle.ring.specs.Ring.{n}
+use Rattle.ring.specs.Centred.{quotients}
 use Rattle.ring.proofs.RingLaws.{length-inverse}
-use Rattle.scheme.specs.Scheme.{Triple, Outcome, found, failed, decapsulation}
+use Rattle.scheme.specs.Scheme.{Triple, Outcome, found, failed, decapsulation, step2}
 use Rattle.scheme.specs.declared.Triple as Declared
-use Rattle.scheme.proofs.Steps.{decapsulation-through}
+use Rattle.scheme.proofs.Steps.{decapsulation-through, step2-through}
 use Rattle.encoding.proofs.Words.{length-elementOf}
 use Rattle.encoding.proofs.Codes.{length-ternaryOf}
 use Rattle.triples.specs.Triple.{tripleBytes}
@@ -25,7 +26,7 @@ use Rattle.sealed_records.specs.Front.{sealedFrontAnswer}
 use Rattle.calls.specs.Calls.{outcome, outcomeAnswer, outcomeBytes, openedAnswer, openedEntry}
 use Rattle.secret_keys.specs.SecretKeys.{expanded?, layoutAnswer, KeyElements, partsOf, noElements, elementsOf}
 use Rattle.secret_keys.specs.declared.SecretKey.{SecretKey}
-use Rattle.recovery.specs.Outcomes.{asTriple, answered, outcomeBy, decapsulatedBy, openedBy, tripleKey0}
+use Rattle.recovery.specs.Outcomes.{asTriple, answered, outcomeBy, quotientsBy, decapsulatedBy, openedBy, tripleKey0}
 
 -- ---- decapsulation with a key that was read
 
@@ -62,6 +63,15 @@ outcome-by k t x1 x2 {key} {dummy} size (ea, eb, es, ei) et e1 e2 =
     ap₄ (λ (a b i s : List ℕ). decapsulation (coefficientsOf a) (coefficientsOf b) (coefficientsOf i) (coefficientsOf s) (asTriple t) x1 x2) ea eb ei es
     ∙ decapsulation-through (key .a) (key .b) (key .inverse) (key .s) (size .a-size) (size .b-size) (size .inverse-size) (size .s-size) (asTriple t) x1 x2
     ∙ ap₃ (decapsulation (key .a) (key .b) (key .inverse) (key .s)) et e1 e2
+
+pub quotients-by : (k : SecretKey) (t : Declared.Triple) (x1 x2 : List ℕ) {key : KeyElements} {dummy : Triple} {c1 c2 : List ℕ} → Sized key
+    → Spectra key (k .a) (k .b) (k .s) (k .inverse) → asTriple t ≡ dummy → x1 ≡ c1 → x2 ≡ c2
+    → quotientsBy k t x1 x2 ≡ quotients (step2 (key .a) (key .b) (key .s) dummy c1 c2)
+quotients-by k t x1 x2 {key} size (ea, eb, es, ei) et e1 e2 =
+    ap quotients
+    (ap₃ (λ (a b s : List ℕ). step2 (coefficientsOf a) (coefficientsOf b) (coefficientsOf s) (asTriple t) x1 x2) ea eb es
+    ∙ step2-through (key .a) (key .b) (key .s) (size .a-size) (size .b-size) (size .s-size) (asTriple t) x1 x2
+    ∙ ap₃ (step2 (key .a) (key .b) (key .s)) et e1 e2)
 
 -- ---- equal parts
 

@@ -3,6 +3,7 @@ use answers::Answer;
 use answers::Refusal;
 use encoding::HEADER_LENGTH;
 use keys::TRIPLE_NOISE_LENGTH;
+use ntt::DEGREE;
 use ntt::FACTORS;
 use octets::BLOCK_LENGTH;
 use records::ENCAPSULATION_LENGTH;
@@ -12,6 +13,7 @@ use records::THIRD;
 use records::TRIPLE_LENGTH;
 use recovery::Decapsulated;
 use recovery::Recovered;
+use ring::Quotients;
 use scheme::Triple;
 use sealed_records::SEALED_ENTRY_VERSION;
 ghost use mathlib.Core.Path.{_≡_};
@@ -26,7 +28,7 @@ ghost use Rattle.keys.specs.Keys.{tripleNoiseLength};
 ghost use Rattle.calls.specs.Calls.{decapsulateAnswer, decapsulateOut, openedEntry, openAnswer, openOut};
 ghost use Rattle.calls.specs.Promises.{DecapsulateExact, OpenExact};
 ghost use Rattle.recovery.specs.Outcomes.{asTriple, answered, tripleKey0};
-ghost use Rattle.opening.specs.Parts.{decapsulatedOutcome, decapsulatedAnswer, openedOutcome, sealedAnswer};
+ghost use Rattle.opening.specs.Parts.{decapsulatedOutcome, decapsulatedAnswer, openedOutcome, openedQuotients, sealedAnswer, entryQuotients};
 
 // ---- decapsulate
 
@@ -96,6 +98,7 @@ fn recover_sealed(
     requires { ⌜ (thirdPlace ≤ length (now sealed)) × (length (now noise) ≡ tripleNoiseLength) × (length (now front) % 16 ≡ 0) × (length (now tag) ≡ blockLength) ⌝ }
     ensures { λ r. ⌜ r .answer ≡ sealedAnswer (now (key .entry)) (now (sealed .entry)) version between (now (noise .entry)) (now (front .entry) ++ now (body .entry)) (now (tag .entry)) ⌝ }
     ensures { λ r. ⌜ r .k0 ≡ tripleKey0 (answered (openedOutcome (now (key .entry)) (now (sealed .entry)) (now (noise .entry)))) ⌝ }
+    ensures { λ r. ⌜ r .quotients ≡ openedQuotients (now (key .entry)) (now (sealed .entry)) (now (noise .entry)) ⌝ }
 {
     let mut forward = [0u16; FACTORS];
     let mut backward = [0u16; FACTORS];
@@ -118,6 +121,12 @@ fn write_entry(answer: Answer, k0: [u8; BLOCK_LENGTH], body: &[u8], out: &mut [u
     }
 }
 
+// What is answered, and beside any answer the quotients w of step 3.
+pub struct OpenedSealed {
+    pub answer: Answer,
+    pub quotients: Quotients,
+}
+
 // Shows the entry once the tag is known.
 pub fn open_sealed(
     key: &[u8],
@@ -129,33 +138,37 @@ pub fn open_sealed(
     body: &[u8],
     tag: &[u8],
     out: &mut [u8],
-) -> Answer
+) -> OpenedSealed
     requires { ⌜ (thirdPlace ≤ length (now sealed)) × (length (now noise) ≡ tripleNoiseLength) × (length (now front) % 16 ≡ 0) × (length (now tag) ≡ blockLength) × (length (now body) ≡ length (now out)) ⌝ }
-    ensures { λ a. ⌜ a ≡ sealedAnswer (now (key .entry)) (now (sealed .entry)) version between (now (noise .entry)) (now (front .entry) ++ now (body .entry)) (now (tag .entry)) ⌝ }
-    ensures { λ a. ⌜ now (out .exit) ≡ onDone a (openedEntry (openedOutcome (now (key .entry)) (now (sealed .entry)) (now (noise .entry))) (now (body .entry))) (now (out .entry)) ⌝ }
+    ensures { λ o. ⌜ o .answer ≡ sealedAnswer (now (key .entry)) (now (sealed .entry)) version between (now (noise .entry)) (now (front .entry) ++ now (body .entry)) (now (tag .entry)) ⌝ }
+    ensures { λ o. ⌜ o .quotients ≡ openedQuotients (now (key .entry)) (now (sealed .entry)) (now (noise .entry)) ⌝ }
+    ensures { λ o. ⌜ now (out .exit) ≡ onDone (o .answer) (openedEntry (openedOutcome (now (key .entry)) (now (sealed .entry)) (now (noise .entry))) (now (body .entry))) (now (out .entry)) ⌝ }
 {
     let r = recover_sealed(key, sealed, version, between, noise, front, body, tag);
     let answer = r.answer;
     let k0 = r.k0;
+    let quotients = r.quotients;
     write_entry(answer, k0, body, out);
-    answer
+    OpenedSealed { answer, quotients }
 }
 
 // ---- open
 
-// entry = body xor keystream where tag = K1 × body + K2, of what the ternary triple of (c1, c2) derives, whatever the dummy. SEALED_ENTRY_LENGTH
-// bytes give BLOCK_LENGTH.
-pub fn open(key: &[u8], sealed: &[u8], noise: &[u8], out: &mut [u8]) -> Answer
-    ensures { λ a. ⌜ a ≡ openAnswer (now (key .entry)) (now (sealed .entry)) (now (noise .entry)) (length (now (out .entry))) ⌝ }
+// A sealed entry opened, with the quotients of the opening; zeros where a length does not fit.
+pub fn open_entry(key: &[u8], sealed: &[u8], noise: &[u8], out: &mut [u8]) -> OpenedSealed
+    ensures { λ o. ⌜ o .answer ≡ openAnswer (now (key .entry)) (now (sealed .entry)) (now (noise .entry)) (length (now (out .entry))) ⌝ }
+    ensures { λ o. ⌜ o .quotients ≡ entryQuotients (now (key .entry)) (now (sealed .entry)) (now (noise .entry)) (length (now (out .entry))) ⌝ }
     ensures { λ _. ⌜ now (out .exit) ≡ openOut (now (key .entry)) (now (sealed .entry)) (now (noise .entry)) (now (out .entry)) ⌝ }
-    ensures { λ a. ⌜ OpenExact (now (key .entry)) (now (sealed .entry)) (now (noise .entry)) (now (out .entry)) (number a) (now (out .exit)) ⌝ }
 {
     let fits = (HEADER_LENGTH <= key.len())
         & (sealed.len() == SEALED_ENTRY_LENGTH)
         & (noise.len() == TRIPLE_NOISE_LENGTH)
         & (out.len() == BLOCK_LENGTH);
     if !fits {
-        return Answer::Refused(Refusal::WrongLength);
+        return OpenedSealed {
+            answer: Answer::Refused(Refusal::WrongLength),
+            quotients: [0i16; DEGREE],
+        };
     }
     open_sealed(
         key,
@@ -168,4 +181,15 @@ pub fn open(key: &[u8], sealed: &[u8], noise: &[u8], out: &mut [u8]) -> Answer
         &sealed[TAG..SEALED_ENTRY_LENGTH],
         out,
     )
+}
+
+// entry = body xor keystream where tag = K1 × body + K2, of what the ternary triple of (c1, c2) derives, whatever the dummy. SEALED_ENTRY_LENGTH
+// bytes give BLOCK_LENGTH.
+pub fn open(key: &[u8], sealed: &[u8], noise: &[u8], out: &mut [u8]) -> Answer
+    ensures { λ a. ⌜ a ≡ openAnswer (now (key .entry)) (now (sealed .entry)) (now (noise .entry)) (length (now (out .entry))) ⌝ }
+    ensures { λ _. ⌜ now (out .exit) ≡ openOut (now (key .entry)) (now (sealed .entry)) (now (noise .entry)) (now (out .entry)) ⌝ }
+    ensures { λ a. ⌜ OpenExact (now (key .entry)) (now (sealed .entry)) (now (noise .entry)) (now (out .entry)) (number a) (now (out .exit)) ⌝ }
+{
+    let opened = open_entry(key, sealed, noise, out);
+    opened.answer
 }

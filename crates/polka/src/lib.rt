@@ -1,6 +1,6 @@
 // What a console and a desk link: each public call for C. A slice is a pointer and a length, buffers may have any length, and the answer is
 // a code that holds number and location, 0 where the call is done; under any other every output is as it came. The definitions that the
-// contracts cite stand in crates calls, batch_calls, conversion_calls and answers.
+// contracts cite stand in crates calls, batch_calls, conversion_calls, margin_calls and answers.
 ghost use mathlib.Core.Path.{_≡_};
 ghost use lib.ListN.{length};
 ghost use Rattle.shake.specs.Shake.{shake128, shake256};
@@ -13,6 +13,8 @@ ghost use Rattle.batch_calls.specs.Calls.{sealBatchAnswer, sealBatchOut, openBa
 ghost use Rattle.batch_calls.specs.Promises.{OpenBatchExact};
 ghost use Rattle.conversion_calls.specs.Calls.{expandAnswer, expandOut, compactAnswer, compactOut};
 ghost use Rattle.conversion_calls.specs.Promises.{ExpandExact, CompactExact};
+ghost use Rattle.margin_calls.specs.Calls.{openMarginOut};
+ghost use Rattle.margin_calls.specs.Promises.{OpenMarginExact};
 
 #[no_mangle]
 pub extern "C" fn polka_keygen(
@@ -143,7 +145,27 @@ pub extern "C" fn polka_open_batch(
 {
     let opened = batch_opening::open_batch(key, batch, noise, out);
     let answer = opened.answer;
-    batch_opening::write_count(opened, count);
+    answers::write_value(answer, opened.count, count);
+    answers::code(answer)
+}
+
+// The margin belongs to the desk's secret side: it tells of the secret key and of the triple, and it alone varies with the dummy.
+#[no_mangle]
+pub extern "C" fn polka_open_with_margin(
+    key: &[u8],
+    sealed: &[u8],
+    noise: &[u8],
+    out: &mut [u8],
+    margin: &mut u32,
+) -> u32
+    ensures { λ n. ⌜ n ≡ code (openAnswer (now (key .entry)) (now (sealed .entry)) (now (noise .entry)) (length (now (out .entry)))) ⌝ }
+    ensures { λ _. ⌜ now (out .exit) ≡ openOut (now (key .entry)) (now (sealed .entry)) (now (noise .entry)) (now (out .entry)) ⌝ }
+    ensures { λ _. ⌜ now (margin .exit) ≡ openMarginOut (now (key .entry)) (now (sealed .entry)) (now (noise .entry)) (length (now (out .entry))) (now (margin .entry)) ⌝ }
+    ensures { λ n. ⌜ OpenMarginExact (now (key .entry)) (now (sealed .entry)) (now (noise .entry)) (now (out .entry)) (now (margin .entry)) n (now (out .exit)) (now (margin .exit)) ⌝ }
+{
+    let opened = margin_opening::open_with_margin(key, sealed, noise, out);
+    let answer = opened.answer;
+    answers::write_value(answer, opened.margin, margin);
     answers::code(answer)
 }
 

@@ -1,10 +1,12 @@
 -- What an opening answers and gives by a key, an encapsulation, and a dummy that were read.
 use mathlib.Core.List.{List}
 use Prim.Native.Nat.{ℕ}
+use lib.IntN.{ℤ}
 use Rattle.lists.specs.Table.{zeros}
 use Rattle.ntt.specs.Spectrum.{coefficientsOf}
 use Rattle.ring.specs.Ring.{n}
-use Rattle.scheme.specs.Scheme.{Triple, Outcome, found, failed, decapsulation}
+use Rattle.ring.specs.Centred.{quotients}
+use Rattle.scheme.specs.Scheme.{Triple, Outcome, found, failed, decapsulation, step2}
 use Rattle.scheme.specs.Answers as Struct
 use Rattle.scheme.specs.declared.Triple as Declared
 use Rattle.derivation.specs.Derivation.{key0}
@@ -27,6 +29,10 @@ answered failed = record { r = zeros n; e1 = zeros n; e2 = zeros n }
 abbrev pub outcomeBy : (key : SecretKey) (dummy : Declared.Triple) (c1 c2 : List ℕ) → Outcome
 outcomeBy key dummy c1 c2 =
     decapsulation (coefficientsOf (key .a)) (coefficientsOf (key .b)) (coefficientsOf (key .inverse)) (coefficientsOf (key .s)) (asTriple dummy) c1 c2
+
+-- w of step 3 beside it
+abbrev pub quotientsBy : (key : SecretKey) (dummy : Declared.Triple) (c1 c2 : List ℕ) → List ℤ
+quotientsBy key dummy c1 c2 = quotients (step2 (coefficientsOf (key .a)) (coefficientsOf (key .b)) (coefficientsOf (key .s)) (asTriple dummy) c1 c2)
 
 -- 9 behind the answers to key, encapsulation and dummy
 abbrev pub decapsulatedBy : (key encapsulation dummy : Answer) (o : Outcome) → Answer

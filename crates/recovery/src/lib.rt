@@ -3,6 +3,7 @@
 use answers::Answer;
 use answers::Refusal;
 use octets::BLOCK_LENGTH;
+use ring::Quotients;
 use scheme::Encapsulation;
 use scheme::Triple;
 use sealed_records::ReadEncapsulation;
@@ -12,7 +13,7 @@ ghost use mathlib.Core.List.{_++_};
 ghost use Prim.Native.Nat.{_%_};
 ghost use lib.ListN.{length};
 ghost use Rattle.ntt.specs.Factors.{forwardFactors, backwardFactors};
-ghost use Rattle.recovery.specs.Outcomes.{asTriple, answered, outcomeBy, decapsulatedBy, openedBy, tripleKey0};
+ghost use Rattle.recovery.specs.Outcomes.{asTriple, answered, outcomeBy, quotientsBy, decapsulatedBy, openedBy, tripleKey0};
 
 // ---- an encapsulation
 
@@ -64,10 +65,11 @@ pub fn find_triple(
 
 // ---- the tag of a sealed entry or a batch
 
-// What is answered, and K0, which shows the entry under Done.
+// What is answered, and K0, which shows the entry under Done; beside any answer the quotients w of step 3.
 pub struct Recovered {
     pub answer: Answer,
     pub k0: [u8; BLOCK_LENGTH],
+    pub quotients: Quotients,
 }
 
 // By a key that was read, an encapsulation and a dummy; the tag is that of the blocks in `front`, of which a single entry has none, and of the
@@ -85,6 +87,7 @@ pub fn recover(
     requires { ⌜ (length (now front) % 16 ≡ 0) × (now forward ≡ forwardFactors) × (now backward ≡ backwardFactors) ⌝ }
     ensures { λ r. ⌜ r .answer ≡ openedBy (key .answer) (c .answer) (outcomeBy key dummy (c .c1) (c .c2)) (now (front .entry) ++ now (body .entry)) tag ⌝ }
     ensures { λ r. ⌜ r .k0 ≡ tripleKey0 (answered (outcomeBy key dummy (c .c1) (c .c2))) ⌝ }
+    ensures { λ r. ⌜ r .quotients ≡ quotientsBy key dummy (c .c1) (c .c2) ⌝ }
 {
     let checked = key.answer;
     let a = key.a;
@@ -105,6 +108,7 @@ pub fn recover(
         backward,
     );
     let found = answers::unless(d.found, Refusal::DecapsulationFailure);
+    let quotients = d.quotients;
     let t = d.triple;
     let r = t.r;
     let e1 = t.e1;
@@ -116,5 +120,6 @@ pub fn recover(
     Recovered {
         answer: answers::and_then(checked, rest),
         k0,
+        quotients,
     }
 }

@@ -18,8 +18,9 @@ use Rattle.case_outputs.specs.Outputs.{output}
 use Rattle.key_cases.specs.KeyCases.{checkAgrees?, keygenAgrees?}
 use Rattle.call_cases.specs.CallCases.{sizeField, callAgrees?}
 use Rattle.batch_cases.specs.BatchCases.{openBatchAgrees?}
+use Rattle.margin_cases.specs.MarginCases.{openMarginAgrees?}
 use Rattle.reference_vectors.specs.declared.Kind.{Kind}
-use Rattle.reference_vectors.specs.declared.Kind.the-variants.{CheckSecretKey, Keygen, Writing, OpenBatch, Noise, Desk}
+use Rattle.reference_vectors.specs.declared.Kind.the-variants.{CheckSecretKey, Keygen, Writing, OpenBatch, OpenWithMargin, Noise, Desk}
 
 -- the last field of a case
 abbrev pub lastField : Kind → ℕ
@@ -27,6 +28,7 @@ lastField CheckSecretKey = 2
 lastField (Keygen source) = 8
 lastField (Writing call) = sizeField call + 3
 lastField OpenBatch = 7
+lastField OpenWithMargin = 7
 lastField Noise = 3
 lastField Desk = 3
 
@@ -61,6 +63,7 @@ agrees? CheckSecretKey text = checkAgrees? text
 agrees? (Keygen source) text = keygenAgrees? source text (output 3 text) (output 4 text)
 agrees? (Writing call) text = callAgrees? call text (output (sizeField call) text)
 agrees? OpenBatch text = openBatchAgrees? text (output 3 text)
+agrees? OpenWithMargin text = openMarginAgrees? text (output 3 text)
 agrees? Noise text = noiseAgrees? text
 agrees? Desk text = deskAgrees? text
 

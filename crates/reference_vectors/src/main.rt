@@ -17,6 +17,7 @@ enum Kind {
     Keygen(Source),
     Writing(Call),
     OpenBatch,
+    OpenWithMargin,
     Noise,
     Desk,
 }
@@ -72,6 +73,7 @@ fn last_field(kind: Kind) -> usize
         Kind::Keygen(_) => 8,
         Kind::Writing(call) => call_cases::size_field(call) + 3,
         Kind::OpenBatch => 7,
+        Kind::OpenWithMargin => 7,
         Kind::Noise => 3,
         Kind::Desk => 3,
     }
@@ -85,6 +87,7 @@ fn agrees(kind: Kind, text: &[u8]) -> bool
         Kind::Keygen(source) => key_cases::keygen_case_agrees(source, text),
         Kind::Writing(call) => call_cases::call_case_agrees(call, text),
         Kind::OpenBatch => batch_cases::open_batch_case_agrees(text),
+        Kind::OpenWithMargin => margin_cases::open_margin_case_agrees(text),
         Kind::Noise => noise_agrees(text),
         Kind::Desk => desk_agrees(text),
     }
@@ -153,6 +156,10 @@ fn check_batch_files() {
     check_file(Kind::OpenBatch, b"open_batch.bin");
 }
 
+fn check_service_file() {
+    check_file(Kind::OpenWithMargin, b"open_with_margin.bin");
+}
+
 fn check_desk_file() {
     check_file(Kind::Desk, b"desk.bin");
 }
@@ -165,6 +172,7 @@ fn main() {
     check_key_files();
     check_call_files();
     check_batch_files();
+    check_service_file();
     check_desk_file();
     check_example_files();
 }

@@ -9,15 +9,7 @@ use borrow.Author.Tests.{eqb-true, eq-eqb, lt-ltb, le-ltb}
 use mir.Syntax.{w32}
 use mir.Val.{SFits, toZ, ofZ}
 use mir.ValLaws.{toZ-pos, toZ-ofZ}
-use Rattle.remainder_cases.specs.Remainders.{signed, sameInteger?, raised}
-
-pub raised-low : (x : ℕ) → x < 2147483648 → raised x ≡ x + 2147483648
-unfolding raised
-raised-low x h = rw (lt-ltb x 2147483648 h)
-
-pub raised-high : (x : ℕ) → 2147483648 ≤ x → raised x ≡ x - 2147483648
-unfolding raised
-raised-high x h = rw (le-ltb x 2147483648 h)
+use Rattle.remainder_cases.specs.Remainders.{signed, sameInteger?}
 
 pub signed-low : (x : ℕ) → x < 2147483648 → toZ w32 x ≡ signed x
 unfolding signed

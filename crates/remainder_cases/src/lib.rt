@@ -1,7 +1,6 @@
 // When a case of a word's remainder agrees: its centred value, and the remainder and the quotient of that by 5.
 ghost use mathlib.Core.Path.{_≡_};
-ghost use Prim.Native.Nat.{_<_};
-ghost use Rattle.remainder_cases.specs.Remainders.{signed, sameInteger?, raised, divides?, integersAgree?, remainderAgrees?};
+ghost use Rattle.remainder_cases.specs.Remainders.{signed, sameInteger?, integersAgree?, remainderAgrees?};
 
 // The integer that a word stands for in two's complement.
 fn signed(x: u32) -> i32
@@ -20,32 +19,17 @@ fn same_integers(a: i32, b: i32) -> bool
     a == b
 }
 
-// The integer that a word stands for, plus 2^31.
-fn raised(x: u32) -> u64
-    ensures { λ r. ⌜ (r ≡ raised x) × (r < 4294967296) ⌝ }
-{
-    if x < 2147483648 {
-        x as u64 + 2147483648
-    } else {
-        x as u64 - 2147483648
-    }
-}
-
-// Whether m = r + 5 k. All three are raised, so that nothing is negative.
-fn divides(m: u32, r: u32, k: u32) -> bool
-    ensures { λ b. ⌜ b ≡ divides? m r k ⌝ }
-{
-    raised(m) + 10737418240 == raised(r) + 5 * raised(k)
-}
-
 // Of a word, its centred value m, the remainder r and the quotient k of m.
 fn integers_agree(w: u16, m: u32, r: u32, k: u32) -> bool
     ensures { λ b. ⌜ b ≡ integersAgree? w m r k ⌝ }
 {
     let found = ring::centred(w);
+    let d = ring::centred_division(found);
+    let remainder = d.remainder;
+    let quotient = d.quotient;
     same_integers(found, signed(m))
-        & same_integers(ring::centred_remainder(found), signed(r))
-        & divides(m, r, k)
+        & same_integers(remainder, signed(r))
+        & same_integers(quotient, signed(k))
 }
 
 pub fn remainder_agrees(text: &[u8]) -> bool

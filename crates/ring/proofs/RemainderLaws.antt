@@ -1,4 +1,4 @@
--- The remainder by 5 between - 2 and 2: bounds, m = remainder + 5 w, and that it is the only one.
+-- The remainder by 5 between - 2 and 2: bounds, and that it is the only one.
 use mathlib.Core.Path.{_≡_, refl, sym, ap, ap₂, _∙_}
 use mathlib.Core.List.{List}
 use Prim.Native.Nat.{ℕ, zero, suc, _+_, _-_, _*_, _/_, _%_, _<_, _≤_}
@@ -71,33 +71,6 @@ remainder-unique m e (negsuc k) h p =
   where
     opposite : negℤ m ≡ negℤ e +ℤ pos (5 * suc k)
     opposite = ap negℤ p ∙ negℤ-+ℤ e _ ∙ ap (λ (x : ℤ). negℤ e +ℤ x) (negℤ-negℤ (pos (5 * suc k)))
-
--- ---- m is it and a multiple of 5
-
-split-natural : (a : ℕ) → (w : ℤ) × (pos a ≡ centredRemainder (pos a) +ℤ pos 5 *ℤ w)
-unfolding centredRemainder
-split-natural a = by (decLe (a % 5) 2)
-  where
-    by : Dec (a % 5 ≤ 2) → (w : ℤ) × (pos a ≡ aroundZero (a % 5) +ℤ pos 5 *ℤ w)
-    by (yes h) =
-        let e : a ≡ a % 5 + 5 * (a / 5) = omega arith in
-        (pos (a / 5), rw (around-low (a % 5) h) (ap pos e))
-    by (no h) =
-        let s : 5 - a % 5 ≡ suc (4 - a % 5) = omega arith in
-        let e : 5 * (a / 5 + 1) - suc (4 - a % 5) ≡ a = omega arith in
-        (pos (a / 5 + 1), rw (around-high (a % 5) (omega arith) (omega arith), s) (sym (sub-down (5 * (a / 5 + 1)) (suc (4 - a % 5)) (omega arith) ∙ ap pos e)))
-
-pub remainder-split : (m : ℤ) → (w : ℤ) × (m ≡ centredRemainder m +ℤ pos 5 *ℤ w)
-remainder-split (pos a) = split-natural a
-remainder-split (negsuc a) = opposite (split-natural (suc a))
-  where
-    opposite : (w : ℤ) × (pos (suc a) ≡ centredRemainder (pos (suc a)) +ℤ pos 5 *ℤ w)
-        → (w : ℤ) × (negsuc a ≡ centredRemainder (negsuc a) +ℤ pos 5 *ℤ w)
-    opposite (w, e) = (
-      negℤ w,
-      ap negℤ e ∙ negℤ-+ℤ (centredRemainder (pos (suc a))) (pos 5 *ℤ w)
-          ∙ ap₂ (λ (x y : ℤ). x +ℤ y) (sym (remainder-neg (pos (suc a)))) (sym (multiple-neg 5 w)),
-    )
 
 -- ---- words
 

@@ -12,10 +12,11 @@ use mir.Syntax.{w32, w16}
 use mir.Val.{SFits, Fits, toZ, ofZ}
 use mir.ValLaws.{toZ-pos, toZ-ofZ, sfits-le}
 use Rattle.ring.specs.Ring.{q}
-use Rattle.ring.specs.Centred.{centred, residue, aroundZero, centredRemainder, remainderOf}
+use Rattle.ring.specs.Centred.{centred, residue, aroundZero, centredRemainder, centredQuotient, remainderOf, quotientOf}
 use Rattle.ring.proofs.Integers.{minus-up, sub-down}
-use Rattle.ring.proofs.Centring.{centred-low, centred-high, residue-below}
+use Rattle.ring.proofs.Centring.{centred-low, centred-high, centred-bound, residue-below}
 use Rattle.ring.proofs.RemainderLaws.{around-low, around-high, remainder-small}
+use Rattle.ring.proofs.QuotientLaws.{quotient-bound}
 
 mag-neg : (k : ℕ) → mag (negℤ (pos k)) ≤ k
 mag-neg zero = omega arith
@@ -68,72 +69,136 @@ module _ (m : ℤ) (f : SFits w32 m) (d : ℕ) (some : 0 < d) where
   pub machine-remainder : t′ ≡ remZ m (pos d)
   machine-remainder = toZ-ofZ w32 (remZ m′ (pos d)) (rw same (sfits-le (mag-rem m (pos d)) f)) ∙ ap (λ (z : ℤ). remZ z (pos d)) same
 
--- ---- the remainder by 5, from the machine's t
+  -- `m / d`
+  abbrev v′ : ℤ
+  v′ = toZ w32 (ofZ w32 (quotZ m′ (pos d)))
+
+  pub machine-quotient : v′ ≡ quotZ m (pos d)
+  machine-quotient = toZ-ofZ w32 (quotZ m′ (pos d)) (quotient-fits .1) ∙ ap (λ (z : ℤ). quotZ z (pos d)) same
+
+-- ---- the remainder and the quotient by 5, from the machine's t and v
 
 abbrev t5 : ℤ → ℤ
 t5 m = remZ m (pos 5)
+
+abbrev v5 : ℤ → ℤ
+v5 m = quotZ m (pos 5)
 
 wide : (z : ℤ) → natAbs z ≤ 2 → SFits w32 z
 wide (pos a) h = record { sfits = omega arith }
 wide (negsuc a) h = record { sfits = omega arith }
 
--- above 2 it is 5 too high, below - 2 it is 5 too low
-lower : (m : ℤ) → ltZ (pos 2) (t5 m) ≡ true → t5 m -ℤ pos 5 ≡ centredRemainder m
-unfolding centredRemainder
-lower (pos a) h = minus-up (a % 5) 5 (omega arith) ∙ sym (around-high (a % 5) (ltb-true 2 (a % 5) h) (omega arith))
-lower (negsuc a) h = never (suc a % 5) h
-  where
-    never : (r : ℕ) → ltZ (pos 2) (negℤ (pos r)) ≡ true → negℤ (pos r) -ℤ pos 5 ≡ negℤ (aroundZero r)
-    never zero e = absurd (omega (arith, ltb-true 2 0 e))
-    never (suc r) e = absurd (true≢false (sym e))
+-- what the tests say of - r
+never-above : (r : ℕ) → ltZ (pos 2) (negℤ (pos r)) ≡ true → ⊥
+never-above zero e = omega (arith, ltb-true 2 0 e)
+never-above (suc r) e = true≢false (sym e)
 
-raise : (m : ℤ) → ltZ (t5 m) (negsuc 1) ≡ true → t5 m +ℤ pos 5 ≡ centredRemainder m
-unfolding centredRemainder
+below : (r : ℕ) → ltZ (negℤ (pos r)) (negsuc 1) ≡ true → 2 < r
+below zero e = absurd (true≢false (sym e))
+below (suc r) e = omega (arith, ltb-true 1 r e)
+
+not-below : (r : ℕ) → ltZ (negℤ (pos r)) (negsuc 1) ≡ false → r ≤ 2
+not-below zero e = omega arith
+not-below (suc r) e = omega (arith, ltb-false 1 r e)
+
+less-one : (k : ℕ) → negℤ (pos k) -ℤ pos 1 ≡ negℤ (pos (k + 1))
+less-one zero = refl
+less-one (suc k) =
+    let e : k + 0 ≡ k = omega arith in
+    let f : suc k + 1 ≡ suc (suc k) = omega arith in
+    ap (λ (x : ℕ). negsuc (suc x)) e ∙ sym (ap (λ (x : ℕ). negℤ (pos x)) f)
+
+-- above 2 the remainder is 5 too high and the quotient 1 too low
+lower : (m : ℤ) → ltZ (pos 2) (t5 m) ≡ true → (t5 m -ℤ pos 5 ≡ centredRemainder m) × (v5 m +ℤ pos 1 ≡ centredQuotient m)
+unfolding centredRemainder centredQuotient
+lower (pos a) h =
+    let high : 2 < a % 5 = ltb-true 2 (a % 5) h in
+    (minus-up (a % 5) 5 (omega arith) ∙ sym (around-high (a % 5) high (omega arith)), ap pos (omega arith))
+lower (negsuc a) h = absurd (never-above (suc a % 5) h)
+
+-- below - 2 the remainder is 5 too low and the quotient 1 too high
+raise : (m : ℤ) → ltZ (t5 m) (negsuc 1) ≡ true → (t5 m +ℤ pos 5 ≡ centredRemainder m) × (v5 m -ℤ pos 1 ≡ centredQuotient m)
+unfolding centredRemainder centredQuotient
 raise (pos a) h = absurd (true≢false (sym h))
-raise (negsuc a) h = up (suc a % 5) (omega arith) h
+raise (negsuc a) h =
+    let high : 2 < suc a % 5 = below (suc a % 5) h in
+    let e : suc a / 5 + 1 ≡ (suc a + 2) / 5 = omega arith in
+    (up (suc a % 5) high (omega arith), less-one (suc a / 5) ∙ ap (λ (k : ℕ). negℤ (pos k)) e)
   where
-    up : (r : ℕ) → r < 5 → ltZ (negℤ (pos r)) (negsuc 1) ≡ true → negℤ (pos r) +ℤ pos 5 ≡ negℤ (aroundZero r)
-    up zero l e = absurd (true≢false (sym e))
-    up (suc r) l e =
-        sub-down 5 (suc r) (omega arith) ∙ sym (ap negℤ (around-high (suc r) (omega (arith, ltb-true 1 r e)) l) ∙ negℤ-negℤ (pos (5 - suc r)))
+    up : (r : ℕ) → 2 < r → r < 5 → negℤ (pos r) +ℤ pos 5 ≡ negℤ (aroundZero r)
+    up zero h l = absurd (omega arith)
+    up (suc r) h l = sub-down 5 (suc r) (omega arith) ∙ sym (ap negℤ (around-high (suc r) h l) ∙ negℤ-negℤ (pos (5 - suc r)))
 
-keep : (m : ℤ) → ltZ (pos 2) (t5 m) ≡ false → ltZ (t5 m) (negsuc 1) ≡ false → t5 m ≡ centredRemainder m
-unfolding centredRemainder
-keep (pos a) h g = sym (around-low (a % 5) (ltb-false 2 (a % 5) h))
-keep (negsuc a) h g = same-sign (suc a % 5) g
+keep : (m : ℤ) → ltZ (pos 2) (t5 m) ≡ false → ltZ (t5 m) (negsuc 1) ≡ false → (t5 m ≡ centredRemainder m) × (v5 m ≡ centredQuotient m)
+unfolding centredRemainder centredQuotient
+keep (pos a) h g =
+    let low : a % 5 ≤ 2 = ltb-false 2 (a % 5) h in
+    (sym (around-low (a % 5) low), ap pos (omega arith))
+keep (negsuc a) h g =
+    let low : suc a % 5 ≤ 2 = not-below (suc a % 5) g in
+    let e : suc a / 5 ≡ (suc a + 2) / 5 = omega arith in
+    (ap negℤ (sym (around-low (suc a % 5) low)), ap (λ (k : ℕ). negℤ (pos k)) e)
+
+-- the quotient is no larger than m
+quotient-mag : (m : ℤ) → mag (centredQuotient m) ≤ mag m
+unfolding centredQuotient
+quotient-mag (pos a) = omega arith
+quotient-mag (negsuc a) = down ((suc a + 2) / 5) (omega arith)
   where
-    same-sign : (r : ℕ) → ltZ (negℤ (pos r)) (negsuc 1) ≡ false → negℤ (pos r) ≡ negℤ (aroundZero r)
-    same-sign zero e = ap negℤ (sym (around-low 0 (omega arith)))
-    same-sign (suc r) e = ap negℤ (sym (around-low (suc r) (omega (arith, ltb-false 1 r e))))
+    down : (k : ℕ) → k ≤ suc a → mag (negℤ (pos k)) ≤ a
+    down zero h = omega arith
+    down (suc k) h = omega arith
 
--- the same of the code's own t
+-- the same of the code's own t and v
 module _ (m : ℤ) (f : SFits w32 m) where
   abbrev t : ℤ
   t = t′ m f 5 (lit< tt)
 
+  abbrev v : ℤ
+  v = v′ m f 5 (lit< tt)
+
   t-is : t ≡ t5 m
   t-is = machine-remainder m f 5 (lit< tt)
 
-  lowered : ltZ (pos 2) t ≡ true → t -ℤ pos 5 ≡ centredRemainder m
-  lowered h = ap (λ (z : ℤ). z -ℤ pos 5) t-is ∙ lower m (ap (ltZ (pos 2)) (sym t-is) ∙ h)
+  v-is : v ≡ v5 m
+  v-is = machine-quotient m f 5 (lit< tt)
 
-  raised : ltZ t (negsuc 1) ≡ true → t +ℤ pos 5 ≡ centredRemainder m
-  raised h = ap (λ (z : ℤ). z +ℤ pos 5) t-is ∙ raise m (ap (λ (z : ℤ). ltZ z (negsuc 1)) (sym t-is) ∙ h)
+  -- a remainder and a quotient that were worked out fit, and are read back
+  remainder-fits : (z : ℤ) → z ≡ centredRemainder m → SFits w32 z
+  remainder-fits z e = rw e (wide (centredRemainder m) (remainder-small m))
+
+  quotient-wide : (z : ℤ) → z ≡ centredQuotient m → SFits w32 z
+  quotient-wide z e = rw e (sfits-le (quotient-mag m) f)
+
+  lowered : ltZ (pos 2) t ≡ true → (t -ℤ pos 5 ≡ centredRemainder m) × (v +ℤ pos 1 ≡ centredQuotient m)
+  lowered h = rw (t-is, v-is) (lower m (ap (ltZ (pos 2)) (sym t-is) ∙ h))
+
+  raised : ltZ t (negsuc 1) ≡ true → (t +ℤ pos 5 ≡ centredRemainder m) × (v -ℤ pos 1 ≡ centredQuotient m)
+  raised h = rw (t-is, v-is) (raise m (ap (λ (z : ℤ). ltZ z (negsuc 1)) (sym t-is) ∙ h))
 
   pub lowered-fits : ltZ (pos 2) t ≡ true → SFits w32 (t -ℤ pos 5)
-  lowered-fits h = rw (lowered h) (wide (centredRemainder m) (remainder-small m))
+  lowered-fits h = remainder-fits _ (lowered h .0)
+
+  pub lowered-quotient-fits : ltZ (pos 2) t ≡ true → SFits w32 (v +ℤ pos 1)
+  lowered-quotient-fits h = quotient-wide _ (lowered h .1)
 
   pub raised-fits : ltZ t (negsuc 1) ≡ true → SFits w32 (t +ℤ pos 5)
-  raised-fits h = rw (raised h) (wide (centredRemainder m) (remainder-small m))
+  raised-fits h = remainder-fits _ (raised h .0)
 
-  pub lowered-is : ltZ (pos 2) t ≡ true → toZ w32 (ofZ w32 (t -ℤ pos 5)) ≡ centredRemainder m
-  lowered-is h = toZ-ofZ w32 _ (lowered-fits h) ∙ lowered h
+  pub raised-quotient-fits : ltZ t (negsuc 1) ≡ true → SFits w32 (v -ℤ pos 1)
+  raised-quotient-fits h = quotient-wide _ (raised h .1)
 
-  pub raised-is : ltZ t (negsuc 1) ≡ true → toZ w32 (ofZ w32 (t +ℤ pos 5)) ≡ centredRemainder m
-  raised-is h = toZ-ofZ w32 _ (raised-fits h) ∙ raised h
+  pub lowered-is : ltZ (pos 2) t ≡ true
+      → (toZ w32 (ofZ w32 (t -ℤ pos 5)) ≡ centredRemainder m) × (toZ w32 (ofZ w32 (v +ℤ pos 1)) ≡ centredQuotient m)
+  lowered-is h = (toZ-ofZ w32 _ (lowered-fits h) ∙ lowered h .0, toZ-ofZ w32 _ (lowered-quotient-fits h) ∙ lowered h .1)
 
-  pub kept-is : ltZ (pos 2) t ≡ false → ltZ t (negsuc 1) ≡ false → t ≡ centredRemainder m
-  kept-is h g = t-is ∙ keep m (ap (ltZ (pos 2)) (sym t-is) ∙ h) (ap (λ (z : ℤ). ltZ z (negsuc 1)) (sym t-is) ∙ g)
+  pub raised-is : ltZ t (negsuc 1) ≡ true
+      → (toZ w32 (ofZ w32 (t +ℤ pos 5)) ≡ centredRemainder m) × (toZ w32 (ofZ w32 (v -ℤ pos 1)) ≡ centredQuotient m)
+  raised-is h = (toZ-ofZ w32 _ (raised-fits h) ∙ raised h .0, toZ-ofZ w32 _ (raised-quotient-fits h) ∙ raised h .1)
+
+  pub kept-is : ltZ (pos 2) t ≡ false → ltZ t (negsuc 1) ≡ false → (t ≡ centredRemainder m) × (v ≡ centredQuotient m)
+  kept-is h g =
+      rw (t-is, v-is) (keep m (ap (ltZ (pos 2)) (sym t-is) ∙ h) (ap (λ (z : ℤ). ltZ z (negsuc 1)) (sym t-is) ∙ g))
 
 -- ---- the residue modulo q, from the machine's t
 
@@ -185,7 +250,42 @@ module _ (m : ℤ) (f : SFits w32 m) where
 
 -- ---- one after the other: each result goes to the next call through its bits
 
-pub remainder-chain : (c : ℕ) (d e : ℤ) (r : ℕ) → SFits w32 d → SFits w32 e
-    → d ≡ centred c → e ≡ centredRemainder (toZ w32 (ofZ w32 d)) → r ≡ residue (toZ w32 (ofZ w32 e)) → r ≡ remainderOf c
-unfolding remainderOf
-remainder-chain c d e r fd fe pd pe pr = pr ∙ ap residue (toZ-ofZ w32 e fe ∙ pe ∙ ap centredRemainder (toZ-ofZ w32 d fd ∙ pd))
+centred-fits : (z : ℤ) → natAbs z ≤ 29696 → SFits w32 z
+centred-fits (pos a) h = record { sfits = omega arith }
+centred-fits (negsuc a) h = record { sfits = omega arith }
+
+narrow : (z : ℤ) → natAbs z ≤ 5939 → SFits w16 z
+narrow (pos a) h = record { sfits = omega arith }
+narrow (negsuc a) h = record { sfits = omega arith }
+
+-- m is a centred value, e and v are its remainder and its quotient
+module _ (c : ℕ) {m e v : ℤ} (em : m ≡ centred c) (divided : (e ≡ centredRemainder (toZ w32 (ofZ w32 m))) × (v ≡ centredQuotient (toZ w32 (ofZ w32 m)))) where
+  read-centred : toZ w32 (ofZ w32 m) ≡ centred c
+  read-centred = toZ-ofZ w32 m (rw em (centred-fits (centred c) (centred-bound c))) ∙ em
+
+  remainder-is : e ≡ centredRemainder (centred c)
+  remainder-is = divided .0 ∙ ap centredRemainder read-centred
+
+  quotient-is : v ≡ quotientOf c
+  unfolding quotientOf
+  quotient-is = divided .1 ∙ ap centredQuotient read-centred
+
+  quotient-small : natAbs v ≤ 5939
+  quotient-small = rw quotient-is (quotient-bound c)
+
+  read-quotient : toZ w32 (ofZ w32 v) ≡ v
+  read-quotient = toZ-ofZ w32 v (centred-fits v (omega (arith, quotient-small)))
+
+  pub remainder-chain : {r : ℕ} → r ≡ residue (toZ w32 (ofZ w32 e)) → r ≡ remainderOf c
+  unfolding remainderOf
+  remainder-chain er = er ∙ ap residue (toZ-ofZ w32 e (rw remainder-is (wide (centredRemainder (centred c)) (remainder-small (centred c)))) ∙ remainder-is)
+
+  pub quotient-narrow : SFits w16 (toZ w32 (ofZ w32 v))
+  quotient-narrow = rw read-quotient (narrow v quotient-small)
+
+  pub quotient-chain : toZ w16 (ofZ w16 (toZ w32 (ofZ w32 v))) ≡ quotientOf c
+  quotient-chain = toZ-ofZ w16 _ quotient-narrow ∙ read-quotient ∙ quotient-is
+
+-- a quotient that goes through its bits
+pub quotient-read : (c : ℕ) {v : ℤ} → v ≡ quotientOf c → toZ w16 (ofZ w16 v) ≡ quotientOf c
+quotient-read c {v} e = toZ-ofZ w16 v (rw e (narrow (quotientOf c) (quotient-bound c))) ∙ e

@@ -1,7 +1,7 @@
--- Centred values, their remainders by 5, and bounds on coefficients.
+-- Centred values, their remainders and quotients by 5, and bounds on coefficients.
 use mathlib.Core.Bool.{Bool, cond}
 use mathlib.Core.List.{List}
-use Prim.Native.Nat.{ℕ, suc, _%_, _≤_, _<_}
+use Prim.Native.Nat.{ℕ, suc, _+_, _/_, _%_, _≤_, _<_}
 use lib.Dec.{leb, eqb}
 use lib.IntN.{ℤ, pos, negsuc, negℤ, natAbs, _-ℤ_}
 use lib.ListN.{length, getD}
@@ -19,7 +19,7 @@ unfoldable pub residue : ℤ → ℕ
 residue (pos m) = m % q
 residue (negsuc m) = subMod q 0 (suc m)
 
--- ---- the remainder by 5, between - 2 and 2
+-- ---- the remainder by 5, between - 2 and 2, and the quotient beside it: m = remainder + 5 × quotient
 
 -- of r = 0, 1, 2, 3, 4
 unfoldable pub aroundZero : ℕ → ℤ
@@ -29,13 +29,24 @@ unfoldable pub centredRemainder : ℤ → ℤ
 centredRemainder (pos m) = aroundZero (m % 5)
 centredRemainder (negsuc m) = negℤ (aroundZero (suc m % 5))
 
+-- the integer nearest to m ÷ 5
+unfoldable pub centredQuotient : ℤ → ℤ
+centredQuotient (pos m) = pos ((m + 2) / 5)
+centredQuotient (negsuc m) = negℤ (pos ((suc m + 2) / 5))
+
 -- of one coefficient
 unfoldable pub remainderOf : ℕ → ℕ
 remainderOf c = residue (centredRemainder (centred c))
 
--- of every coefficient: step 3 of document 01's opening
+unfoldable pub quotientOf : ℕ → ℤ
+quotientOf c = centredQuotient (centred c)
+
+-- of every coefficient: E2 and w of step 3 of document 01's opening, m = E2 + 5 × w (document 02, No. 7)
 unfoldable pub remainders : List ℕ → List ℕ
 remainders m = table n (λ k. remainderOf (getD m k 0))
+
+unfoldable pub quotients : List ℕ → List ℤ
+quotients m = table n (λ k. quotientOf (getD m k 0))
 
 -- ---- bounds
 

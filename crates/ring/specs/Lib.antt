@@ -3,4 +3,5 @@
 pub mod Ring
 pub mod Invertible
 pub mod Centred
+pub mod Division
 pub mod Reciprocals

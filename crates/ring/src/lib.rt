@@ -15,7 +15,8 @@ ghost use Rattle.ntt.specs.Spectrum.{coefficientsOf};
 ghost use Rattle.ntt.specs.Factors.{forwardFactors, backwardFactors};
 ghost use Rattle.ring.specs.Ring.{one, sum, difference, multiple, product};
 ghost use Rattle.ring.specs.Invertible.{invertible?, inverseOf, inverse?};
-ghost use Rattle.ring.specs.Centred.{centred, residue, centredRemainder, remainderOf, remainders, near?, within?};
+ghost use Rattle.ring.specs.Centred.{centred, residue, centredRemainder, centredQuotient, remainderOf, quotientOf, remainders, quotients, near?, within?};
+ghost use Rattle.ring.specs.Division.{DivisionExact};
 
 // ---- sums and multiples, word by word: of spectra they are the spectra of sums and multiples
 
@@ -54,7 +55,7 @@ pub fn multiple(c: u16, a: Element) -> Element
     ntt::multiple(c, a)
 }
 
-// ---- centred values and remainders
+// ---- centred values, and their division by 5
 
 // The centred value of a coefficient, from - 29,696 to 29,696.
 pub fn centred(c: u16) -> i32
@@ -65,17 +66,38 @@ pub fn centred(c: u16) -> i32
     if y <= 29696 { z } else { z - Q_I32 }
 }
 
-// The remainder by 5 between - 2 and 2. That of the machine has the sign of m and is between - 4 and 4.
-pub fn centred_remainder(m: i32) -> i32
-    ensures { λ r. ⌜ r ≡ centredRemainder m ⌝ }
+// What dividing an integer by 5 gives.
+pub struct Division {
+    pub remainder: i32,
+    pub quotient: i32,
+}
+
+// m = remainder + 5 × quotient, with the remainder between - 2 and 2. That of the machine has the sign of m and is between - 4 and 4, and its
+// quotient is rounded toward zero: where the remainder moves by 5, the quotient moves by 1.
+pub fn centred_division(m: i32) -> Division
+    ensures { λ d. ⌜ (d .remainder ≡ centredRemainder m) × (d .quotient ≡ centredQuotient m) ⌝ }
 {
     let t = m % 5;
+    let v = m / 5;
     if t > 2 {
-        t - 5
-    } else if t < -2 {
-        t + 5
-    } else {
-        t
+        let lowered = t - 5;
+        let raised = v + 1;
+        return Division {
+            remainder: lowered,
+            quotient: raised,
+        };
+    }
+    if t < -2 {
+        let raised = t + 5;
+        let lowered = v - 1;
+        return Division {
+            remainder: raised,
+            quotient: lowered,
+        };
+    }
+    Division {
+        remainder: t,
+        quotient: v,
     }
 }
 
@@ -87,21 +109,51 @@ pub fn residue(m: i32) -> u16
     if t < 0 { (t + Q_I32) as u16 } else { t as u16 }
 }
 
-fn remainder_of(c: u16) -> u16
-    ensures { λ r. ⌜ r ≡ remainderOf c ⌝ }
-{
-    residue(centred_remainder(centred(c)))
+// The remainder as a coefficient, and the quotient, which is between - 5,939 and 5,939.
+struct CoefficientDivision {
+    remainder: u16,
+    quotient: i16,
 }
 
-// The remainder by 5 of every centred coefficient.
-pub fn remainders(m: Element) -> Element
-    ensures { λ r. ⌜ r ≡ remainders m ⌝ }
+fn divide_coefficient(c: u16) -> CoefficientDivision
+    ensures { λ d. ⌜ (d .remainder ≡ remainderOf c) × (d .quotient ≡ quotientOf c) ⌝ }
+{
+    let m = centred(c);
+    let d = centred_division(m);
+    let remainder = residue(d.remainder);
+    let quotient = d.quotient as i16;
+    CoefficientDivision {
+        remainder,
+        quotient,
+    }
+}
+
+// A quotient for every coefficient.
+pub type Quotients = [i16; DEGREE];
+
+// What dividing every centred coefficient by 5 gives.
+pub struct ElementDivision {
+    pub remainders: Element,
+    pub quotients: Quotients,
+}
+
+// m = remainders + 5 × quotients, coefficient by coefficient, with the remainders between - 2 and 2: E2 and w of document 01's step 3.
+pub fn divide_by_5(m: Element) -> ElementDivision
+    ensures { λ d. ⌜ (d .remainders ≡ remainders m) × (d .quotients ≡ quotients m) ⌝ }
+    ensures { λ d. ⌜ DivisionExact m (d .remainders) (d .quotients) ⌝ }
 {
     let mut r = [0u16; DEGREE];
+    let mut w = [0i16; DEGREE];
     for k in 0..DEGREE {
-        r[k] = remainder_of(m[k]);
+        let d = divide_coefficient(m[k]);
+        let quotient = d.quotient;
+        r[k] = d.remainder;
+        w[k] = quotient;
     }
-    r
+    ElementDivision {
+        remainders: r,
+        quotients: w,
+    }
 }
 
 // ---- tests of every coefficient

@@ -19,12 +19,14 @@ use Rattle.exactness.proofs.Identities.{key-of-error}
 use Rattle.exactness.proofs.Sizes.{within-up, weight-bound}
 use Rattle.exactness.proofs.KeyCheck.{error-ternary}
 use Rattle.ring.specs.Ring.{q, n}
-use Rattle.ring.specs.Centred.{centred, residue, Within, Ternary}
+use Rattle.ring.specs.Centred.{centred, residue, quotientOf, quotients, Within, Ternary}
+use Rattle.ring.specs.Division.{QuotientsWithin}
 use Rattle.ring.proofs.Integers.{abs-plus, abs-multiple}
 use Rattle.ring.proofs.Centring.{centred-same, centred-size, residue-below, centred-residue, residue-combination}
+use Rattle.ring.proofs.QuotientLaws.{quotient-unique, quotients-at}
 use Rattle.ring.proofs.Ternaries.{ternary-entry}
-use Rattle.scheme.specs.Scheme.{Triple, setting, keyElement, keyError}
-use Rattle.scheme.specs.Noise.{nonzeros, keyWeight, phaseOf, phaseQuotient, NoiseBound, step2, DecapsulationPhase}
+use Rattle.scheme.specs.Scheme.{Triple, setting, keyElement, keyError, step2}
+use Rattle.scheme.specs.Noise.{nonzeros, keyWeight, phaseOf, phaseQuotient, NoiseBound, DecapsulationPhase}
 use Rattle.scheme.proofs.Givens.{givens, combination-at, magnitude-at}
 use Rattle.scheme.proofs.Promises.{promises}
 
@@ -116,7 +118,15 @@ module _ (a b i s : List ℕ) (key : SoundKey setting a b i s) (t : Triple) (h :
 
 pub decapsulation-phase : (a b i s c1 c2 : List ℕ) (t dummy : Triple) → SoundKey setting a b i s → Encapsulates setting a b c1 c2 t
     → TernaryTriple setting dummy → DecapsulationPhase a b s c1 c2 t dummy
-decapsulation-phase a b i s c1 c2 t dummy key m hd = record { same = is-phase; bound = bounds; largest = rw is-phase (bounds .largest) }
+unfolding quotientOf
+decapsulation-phase a b i s c1 c2 t dummy key m hd = record {
+  same = is-phase;
+  bound = bounds;
+  largest = rw is-phase (bounds .largest);
+  quotient = quotient-at;
+  quotient-bound = quotients-most (bounds .quotient-bound);
+  largest-quotient = quotients-most (bounds .largest-quotient);
+}
   where
     first : Step1 setting a b c1 c2 t dummy
     first = promises .step1 a b c1 c2 t dummy (key .a-element) (key .b-element) m hd
@@ -126,3 +136,13 @@ decapsulation-phase a b i s c1 c2 t dummy key m hd = record { same = is-phase; b
 
     bounds : NoiseBound a b s (sums setting t dummy)
     bounds = noise-bound a b i s key (sums setting t dummy) (first .within)
+
+    -- the remainder is between - 2 and 2, so there is one quotient only
+    quotient-at : (k : ℕ) → k < n → getD (quotients (step2 a b s dummy c1 c2)) k (pos 0) ≡ centred (getD (phaseQuotient a b s (sums setting t dummy)) k 0)
+    quotient-at k l =
+        quotients-at (step2 a b s dummy c1 c2) k l
+        ∙ quotient-unique (centred (getD (step2 a b s dummy c1 c2) k 0)) (centred (getD (sums setting t dummy .e2) k 0)) _ (first .within .e2-bounded .1 k l)
+        (ap (λ (x : List ℕ). centred (getD x k 0)) is-phase ∙ bounds .split k l)
+
+    quotients-most : {most : ℕ} → Within most (phaseQuotient a b s (sums setting t dummy)) → QuotientsWithin most (quotients (step2 a b s dummy c1 c2))
+    quotients-most within k l = rw (quotient-at k l) (within k l)

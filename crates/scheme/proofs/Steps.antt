@@ -12,7 +12,7 @@ use Rattle.ring.specs.Ring.{n, fifth, sum, difference, multiple, product}
 use Rattle.ring.proofs.RingLaws.{sum-element, difference-element, multiple-element, sum-swapped}
 use Rattle.ring.proofs.Transforms.{product-by-spectra, left-through, right-through}
 use Rattle.ring.proofs.Spectra.{difference-reduced, coefficients-through, spectrum-through, coefficients-of-sum, coefficients-of-difference, coefficients-of-multiple}
-use Rattle.scheme.specs.Scheme.{Triple, Outcome, found, failed, keyError, masked, summed, phase, core, decapsulation, recovered, recovers?, withoutDummy, ternary?, judged}
+use Rattle.scheme.specs.Scheme.{Triple, Outcome, found, failed, keyError, masked, summed, phase, core, decapsulation, recovered, recovers?, withoutDummy, ternary?, judged, step2}
 
 -- triples are known by their parts
 pub triple-same : {t u : Triple} → t .r ≡ u .r → t .e1 ≡ u .e1 → t .e2 ≡ u .e2 → t ≡ u
@@ -112,6 +112,14 @@ masked-through x size r e = ap (λ (y : List ℕ). sum y e) (left-through x r si
 summed-by-key : (x : List ℕ) → length x ≡ n → (r e c : List ℕ) → summed (coefficientsOf (spectrumOf x)) r e c ≡ summed x r e c
 unfolding Any.summed
 summed-by-key x size r e c = ap (sum c) (masked-through x size r e)
+
+-- m of step 2
+pub step2-through : (a b s : List ℕ) → length a ≡ n → length b ≡ n → length s ≡ n → (dummy : Triple) (c1 c2 : List ℕ)
+    → step2 (coefficientsOf (spectrumOf a)) (coefficientsOf (spectrumOf b)) (coefficientsOf (spectrumOf s)) dummy c1 c2 ≡ step2 a b s dummy c1 c2
+step2-through a b s ha hb hs dummy c1 c2 =
+    ap₂ phase (summed-by-key b hb (dummy .r) (dummy .e2) c2)
+    (ap (λ (x : List ℕ). product x (coefficientsOf (spectrumOf s))) (summed-by-key a ha (dummy .r) (dummy .e1) c1)
+    ∙ right-through (summed a (dummy .r) (dummy .e1) c1) s hs)
 
 module _ (a b i s : List ℕ) (ha : length a ≡ n) (hb : length b ≡ n) (hi : length i ≡ n) (hs : length s ≡ n) where
   recovered-through : (s1 s2 e2 : List ℕ) → recovered (coefficientsOf (spectrumOf a)) (coefficientsOf (spectrumOf i)) s1 s2 e2 ≡ recovered a i s1 s2 e2

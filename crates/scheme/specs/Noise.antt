@@ -6,12 +6,12 @@ use Prim.Native.Nat.{ℕ, suc, _+_, _*_, _≤_, _<_}
 use lib.Dec.{eqb}
 use lib.IntN.{pos, _+ℤ_, _*ℤ_}
 use lib.ListN.{getD}
-use Rattle.exactness.specs.Scheme.{phase, summed}
 use Rattle.exactness.specs.Promises.{sums}
 use Rattle.exactness.specs.Promises as P
-use Rattle.ring.specs.Ring.{n, product}
-use Rattle.ring.specs.Centred.{centred, Within}
-use Rattle.scheme.specs.Scheme.{Triple, setting, keyError}
+use Rattle.ring.specs.Ring.{n}
+use Rattle.ring.specs.Centred.{centred, quotients, Within}
+use Rattle.ring.specs.Division.{QuotientsWithin}
+use Rattle.scheme.specs.Scheme.{Triple, setting, keyError, step2}
 
 -- how many entries are not 0
 unfoldable pub nonzeros : List ℕ → ℕ
@@ -45,11 +45,6 @@ pub record NoiseBound (a b s : List ℕ) (t : Triple) : Type 0 where
 
 -- ---- in a decapsulation
 
--- m of step 2
-abbrev pub step2 : (a b s : List ℕ) (dummy : Triple) (c1 c2 : List ℕ) → List ℕ
-step2 a b s dummy c1 c2 =
-    phase setting (summed setting b (dummy .r) (dummy .e2) c2) (product (summed setting a (dummy .r) (dummy .e1) c1) s)
-
 -- for a sound key, a ternary triple t that the formula turns into (c1, c2), and any ternary dummy
 pub record DecapsulationPhase (a b s c1 c2 : List ℕ) (t dummy : Triple) : Type 0 where
   -- m is that of R, E1, E2, which are the triple plus the dummy
@@ -57,3 +52,8 @@ pub record DecapsulationPhase (a b s c1 c2 : List ℕ) (t dummy : Triple) : Type
   pub bound : NoiseBound a b s (sums setting t dummy)
   -- so it never passes 20,482
   pub largest : Within 20482 (step2 a b s dummy c1 c2)
+  -- w of step 3 is e × R - E1 × s, as integers: at most 2 W, and so at most 4,096, in size
+  pub quotient : (k : ℕ) → k < n
+      → getD (quotients (step2 a b s dummy c1 c2)) k (pos 0) ≡ centred (getD (phaseQuotient a b s (sums setting t dummy)) k 0)
+  pub quotient-bound : QuotientsWithin (2 * keyWeight a b s) (quotients (step2 a b s dummy c1 c2))
+  pub largest-quotient : QuotientsWithin 4096 (quotients (step2 a b s dummy c1 c2))

@@ -52,3 +52,8 @@ core a i dummy s1 s2 s1s = Any.core setting a i dummy s1 s2 s1s
 
 abbrev pub decapsulation : (a b i s : List ℕ) (dummy : Triple) (c1 c2 : List ℕ) → Outcome
 decapsulation a b i s dummy c1 c2 = Any.decapsulation setting a b i s dummy c1 c2
+
+-- ---- m of a decapsulation, which step 3 divides by 5: m = E2 + 5 × w (document 02, No. 7)
+
+abbrev pub step2 : (a b s : List ℕ) (dummy : Triple) (c1 c2 : List ℕ) → List ℕ
+step2 a b s dummy c1 c2 = phase (summed b (dummy .r) (dummy .e2) c2) (product (summed a (dummy .r) (dummy .e1) c1) s)

@@ -3,13 +3,14 @@
 use ntt::DEGREE;
 use ntt::Element;
 use ntt::Spectrum;
+use ring::Quotients;
 ghost use mathlib.Core.Path.{_≡_};
 ghost use mathlib.Core.Bool.{decide};
 ghost use Rattle.ntt.specs.Spectrum.{spectrumOf, coefficientsOf};
 ghost use Rattle.ntt.specs.Factors.{forwardFactors, backwardFactors};
 ghost use Rattle.ring.specs.Invertible.{invertible?};
-ghost use Rattle.ring.specs.Centred.{within?};
-ghost use Rattle.scheme.specs.Scheme.{keyElement, keyError, masked, summed, phase, recovered, recovers?, withoutDummy, ternary?, judged, core, decapsulation};
+ghost use Rattle.ring.specs.Centred.{quotients, within?};
+ghost use Rattle.scheme.specs.Scheme.{keyElement, keyError, masked, summed, phase, recovered, recovers?, withoutDummy, ternary?, judged, core, decapsulation, step2};
 ghost use Rattle.scheme.specs.Answers.{tripleOf, answer};
 
 // ---- keys
@@ -131,10 +132,11 @@ pub fn encapsulate(
 
 // ---- decapsulation, by the steps of document 01
 
-// Whether a triple was found, and the triple; zeros where none was.
+// Whether a triple was found, and the triple, zeros where none was; beside either the quotients w of step 3, m = E2 + 5 × w.
 pub struct Decapsulation {
     pub found: bool,
     pub triple: Triple,
+    pub quotients: Quotients,
 }
 
 // The sums of step 1, as spectra: so a product with either takes no transform.
@@ -239,9 +241,9 @@ pub fn is_ternary(t: Triple) -> bool
     r_ternary & e1_ternary & e2_ternary
 }
 
-// The answer, from R, E1 and E2: both tests are made before either is looked at.
-pub fn judge(dummy: Triple, t: Triple) -> Decapsulation
-    ensures { λ d. ⌜ d ≡ answer (judged (tripleOf dummy) (tripleOf t)) ⌝ }
+// The answer, from R, E1 and E2, with the quotients w beside it: both tests are made before either is looked at.
+pub fn judge(dummy: Triple, t: Triple, w: Quotients) -> Decapsulation
+    ensures { λ d. ⌜ d ≡ answer (judged (tripleOf dummy) (tripleOf t)) w ⌝ }
 {
     let recovered = recovers(t);
     let u = subtract_dummy(dummy, t);
@@ -250,6 +252,7 @@ pub fn judge(dummy: Triple, t: Triple) -> Decapsulation
         return Decapsulation {
             found: true,
             triple: u,
+            quotients: w,
         };
     }
     Decapsulation {
@@ -259,6 +262,7 @@ pub fn judge(dummy: Triple, t: Triple) -> Decapsulation
             e1: [0u16; DEGREE],
             e2: [0u16; DEGREE],
         },
+        quotients: w,
     }
 }
 
@@ -273,11 +277,13 @@ pub fn core(
     backward: &[u16],
 ) -> Decapsulation
     requires { ⌜ (now forward ≡ forwardFactors) × (now backward ≡ backwardFactors) ⌝ }
-    ensures { λ d. ⌜ d ≡ answer (core (coefficientsOf a) (coefficientsOf inverse) (tripleOf dummy) (coefficientsOf (sums .first)) (coefficientsOf (sums .second)) (coefficientsOf product)) ⌝ }
+    ensures { λ d. ⌜ d ≡ answer (core (coefficientsOf a) (coefficientsOf inverse) (tripleOf dummy) (coefficientsOf (sums .first)) (coefficientsOf (sums .second)) (coefficientsOf product)) (quotients (phase (coefficientsOf (sums .second)) (coefficientsOf product))) ⌝ }
 {
     let second = sums.second;
-    let e2 = ring::remainders(phase(second, product, backward));
-    judge(dummy, recover(a, inverse, sums, e2, forward, backward))
+    let d = ring::divide_by_5(phase(second, product, backward));
+    let e2 = d.remainders;
+    let w = d.quotients;
+    judge(dummy, recover(a, inverse, sums, e2, forward, backward), w)
 }
 
 // Decapsulation with a dummy, by the spectra of a, b, s and of the inverse of b.
@@ -292,7 +298,7 @@ pub fn decapsulate(
     backward: &[u16],
 ) -> Decapsulation
     requires { ⌜ (now forward ≡ forwardFactors) × (now backward ≡ backwardFactors) ⌝ }
-    ensures { λ d. ⌜ d ≡ answer (decapsulation (coefficientsOf a) (coefficientsOf b) (coefficientsOf inverse) (coefficientsOf s) (tripleOf dummy) (c .c1) (c .c2)) ⌝ }
+    ensures { λ d. ⌜ d ≡ answer (decapsulation (coefficientsOf a) (coefficientsOf b) (coefficientsOf inverse) (coefficientsOf s) (tripleOf dummy) (c .c1) (c .c2)) (quotients (step2 (coefficientsOf a) (coefficientsOf b) (coefficientsOf s) (tripleOf dummy) (c .c1) (c .c2))) ⌝ }
 {
     let sums = add_dummy(a, b, dummy, c, forward);
     let first = sums.first;

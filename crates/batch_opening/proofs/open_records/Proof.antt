@@ -76,8 +76,11 @@ open-sealed-requires c κs =
     let (size, noise, room) = start .pre in
     (omega (arith, size), noise, search needs, omega arith, omega arith)
 
-count-shown-requires : tie.Need-count-shown-requires
-count-shown-requires c κs = search needs
+cast-shown : tie.Need-cast-shown
+cast-shown c = search needs
+
+shown-requires : tie.Need-shown-requires
+shown-requires c κs = search needs
 
 same-length : tie.Need-same-length
 same-length c = search needs
@@ -97,7 +100,7 @@ returns c =
     let s = size .body-length .result in
     let m = counted .count .ensures .0 in
     let es = size .body-length .ensures .0 ∙ ap (λ (x : ℕ). bodyLength x (length batch)) m in
-    let (says, shows) = opened .open-sealed .ensures in
+    let (says, (_, shows)) = opened .open-sealed .ensures in
     let whole : 4103 + s - 4103 ≡ s = omega arith in
     let long : 4119 + s - (4103 + s) ≡ 16 = omega arith in
     let none : s - 0 ≡ s = omega arith in
@@ -109,8 +112,8 @@ returns c =
     let (answer, shown) =
     opened-batch k batch noise old es
     (version-is k batch noise _ _ _ _ says refl ∙ ap₃ (λ (w : Answer) (x y : List ℕ). openedBy (secretAnswer k) (sealedFrontAnswer 2 w batch) o x y) front blocks tag)
-    none (shows ∙ ap (λ (x : List ℕ). onDone (opened .open-sealed .result) (openedEntry o x) (take (s - 0) old)) body) in
-    (answer, (c .count-shown .ensures ∙ ap₂ (λ (a : Answer) (x : ℕ). onDone a x 0) answer m, shown))
+    none (shows ∙ ap (λ (x : List ℕ). onDone (opened .open-sealed .result .answer) (openedEntry o x) (take (s - 0) old)) body) in
+    (answer, (c .shown .ensures ∙ ap₂ (λ (a : Answer) (x : ℕ). onDone a x 0) answer m, shown))
 
 pub open-records-spec : {M : Type 1} → statement M
 open-records-spec =
@@ -134,6 +137,7 @@ open-records-spec =
     part-open-sealed-start-3
     part-open-sealed-end-3
     open-sealed-requires
-    count-shown-requires
+    cast-shown
+    shown-requires
     same-length
     returns)

@@ -24,7 +24,7 @@ same-length c = search needs
 
 returns : tie.Need-returns
 returns c =
-    let made = c .before .before .before .before .before in
+    let made = c .before .before .before .before .before .before in
     let args = made .before .before .before .before .before .before .before .before .args in
     let k = now (args .key) in
     let sealed = now (args .sealed) in
@@ -32,7 +32,7 @@ returns c =
     let out = now (args .out) in
     let blocks = now (args .front) ++ body in
     let tag = now (args .tag) in
-    let (answer, key) = made .recover-sealed .ensures in
+    let (answer, (key, quotients)) = made .recover-sealed .ensures in
     let new = underKeystream (made .recover-sealed .result .k0) body in
     let front = sealedFrontAnswer (args .version) (args .between) sealed in
     let o = openedOutcome k sealed (now (args .noise)) in
@@ -41,7 +41,7 @@ returns c =
     ∙ ap (λ (a : Answer). onDone a new out) answer
     ∙ entry-written (secretAnswer k) front o blocks tag body out key
     ∙ sym (ap (λ (a : Answer). onDone a (openedEntry o body) out) answer) in
-    (answer, written)
+    (answer, (quotients, written))
 
 pub open-sealed-spec : {M : Type 1} → statement M
 open-sealed-spec =

@@ -4,7 +4,7 @@ use denote.Ref.{now}
 use Rattle.ntt.proofs.Factors.{forward-size, backward-size}
 use Rattle.scheme.specs.Scheme.{Outcome}
 use Rattle.recovery.specs.Outcomes.{answered, tripleKey0}
-use Rattle.opening.proofs.Laws.{read-sized, outcome-by, opened-by}
+use Rattle.opening.proofs.Laws.{read-sized, outcome-by, quotients-by, opened-by}
 use borrow.Author.Needs.{needs}
 use Rattle.opening.proofs.recover_sealed.Statement.{statement}
 use Rattle.opening.proofs.recover_sealed.Tie as tie
@@ -51,10 +51,14 @@ returns c =
     let (answer, spectra) = key .read-secret-key .ensures in
     let args = key .before .before .before .before .before .before .before .before .before .before .before .before .before .args in
     let (checked, (c1, c2)) = read .read-sealed .ensures in
+    let sized = read-sized (now (args .key)) in
     let o =
-    outcome-by (key .read-secret-key .result) (dummy .noise-triple .result) (read .read-sealed .result .c1) (read .read-sealed .result .c2) (read-sized (now (args .key))) spectra (dummy .noise-triple .ensures) c1 c2 in (
-      c .recover .ensures .0 ∙ opened-by (now (args .front) ++ now (args .body)) answer checked o (block .read-block .ensures),
-      c .recover .ensures .1 ∙ ap (λ (x : Outcome). tripleKey0 (answered x)) o,
+    outcome-by (key .read-secret-key .result) (dummy .noise-triple .result) (read .read-sealed .result .c1) (read .read-sealed .result .c2) sized spectra (dummy .noise-triple .ensures) c1 c2 in
+    let w =
+    quotients-by (key .read-secret-key .result) (dummy .noise-triple .result) (read .read-sealed .result .c1) (read .read-sealed .result .c2) sized spectra (dummy .noise-triple .ensures) c1 c2 in
+    let (said, (k0, quotients)) = c .recover .ensures in (
+      said ∙ opened-by (now (args .front) ++ now (args .body)) answer checked o (block .read-block .ensures),
+      (k0 ∙ ap (λ (x : Outcome). tripleKey0 (answered x)) o, quotients ∙ w),
     )
 
 pub recover-sealed-spec : {M : Type 1} → statement M

@@ -11,8 +11,8 @@ use Rattle.polka.proofs.polka_open_batch.Tie as tie
 open-batch-requires : tie.Need-open-batch-requires
 open-batch-requires c κs = search needs
 
-write-count-requires : tie.Need-write-count-requires
-write-count-requires c κs = search needs
+write-value-requires : tie.Need-write-value-requires
+write-value-requires c κs = search needs
 
 code-requires : tie.Need-code-requires
 code-requires c κs = search needs
@@ -31,9 +31,9 @@ returns c =
     let lent = now (args .count) in
     let (answer, (count, (out, promise))) = made .open-batch .ensures in
     let n = c .code .ensures ∙ ap code answer in
-    let value = c .before .write-count .ensures ∙ count-written k batch noise (length old) lent answer count in
+    let value = c .before .write-value .ensures ∙ count-written k batch noise (length old) lent answer count in
     (n, (out, (value, open-batch-export k batch noise old lent n out value)))
 
 pub polka-open-batch-spec : {M : Type 1} → statement M
 polka-open-batch-spec =
-    tie.close (tie.spec open-batch-requires write-count-requires code-requires same-length returns)
+    tie.close (tie.spec open-batch-requires write-value-requires code-requires same-length returns)

@@ -3,7 +3,7 @@ use Rattle.scheme.specs.declared.Decapsulation.{Decapsulation}
 use Rattle.answers.specs.declared.Refusal.the-variants.{DecapsulationFailure}
 use Rattle.answers.specs.declared.Answer.the-variants.{Done}
 use Rattle.answers.specs.Answers.{unless, andThen}
-use Rattle.recovery.specs.Outcomes.{asTriple, outcomeBy}
+use Rattle.recovery.specs.Outcomes.{asTriple, outcomeBy, quotientsBy}
 use Rattle.recovery.proofs.Laws.{found-answer, found-triple}
 use borrow.Author.Needs.{needs}
 use Rattle.recovery.proofs.find_triple.Statement.{statement}
@@ -29,12 +29,13 @@ returns c =
     let made = c .before .before .before .before .before in
     let args = made .before .before .before .before .before .before .before .before .before .args in
     let o = outcomeBy (args .key) (args .dummy) (args .c .c1) (args .c .c2) in
+    let w = quotientsBy (args .key) (args .dummy) (args .c .c1) (args .c .c2) in
     let found = made .decapsulate .ensures in
-    let last = c .before .before .before .unless .ensures ∙ ap (λ (d : Decapsulation). unless (d .found) DecapsulationFailure Done) found ∙ found-answer o in (
+    let last = c .before .before .before .unless .ensures ∙ ap (λ (d : Decapsulation). unless (d .found) DecapsulationFailure Done) found ∙ found-answer w o in (
       c .and-then3 .ensures
           ∙ ap (andThen (args .key .answer))
           (c .before .and-then2 .ensures ∙ ap (andThen (args .c .answer)) (c .before .before .and-then .ensures ∙ ap (andThen (args .codes)) last)),
-      ap (λ (d : Decapsulation). asTriple (d .triple)) found ∙ found-triple o,
+      ap (λ (d : Decapsulation). asTriple (d .triple)) found ∙ found-triple w o,
     )
 
 pub find-triple-spec : {M : Type 1} → statement M

@@ -8,8 +8,8 @@ use Rattle.derivation.specs.Derivation.{genuine?}
 use Rattle.answers.specs.declared.Refusal.the-variants.{DecapsulationFailure, TagMismatch}
 use Rattle.answers.specs.declared.Answer.the-variants.{Done}
 use Rattle.answers.specs.Answers.{unless, andThen}
-use Rattle.recovery.specs.Outcomes.{asTriple, outcomeBy, tripleKey0}
-use Rattle.recovery.proofs.Laws.{found-answer, found-triple, verified-answer}
+use Rattle.recovery.specs.Outcomes.{asTriple, outcomeBy, quotientsBy, tripleKey0}
+use Rattle.recovery.proofs.Laws.{found-answer, found-triple, found-quotients, verified-answer}
 use borrow.Author.Needs.{needs}
 use Rattle.recovery.proofs.recover.Statement.{statement}
 use Rattle.recovery.proofs.recover.Tie as tie
@@ -38,22 +38,23 @@ and-then-requires-3 c κs = search needs
 returns : tie.Need-returns
 returns c =
     let verified = c .before .before .before .before .before in
-    let tested = verified .before .before .before .before .before in
+    let tested = verified .before .before .before .before .before .before in
     let made = tested .before in
     let args = made .before .before .before .before .before .before .before .before .before .before .before .args in
     let blocks = now (args .front) ++ now (args .body) in
     let tag = args .tag in
     let o = outcomeBy (args .key) (args .dummy) (args .c .c1) (args .c .c2) in
+    let w = quotientsBy (args .key) (args .dummy) (args .c .c1) (args .c .c2) in
     let found = made .decapsulate .ensures in
-    let t = ap (λ (d : Decapsulation). asTriple (d .triple)) found ∙ found-triple o in
+    let t = ap (λ (d : Decapsulation). asTriple (d .triple)) found ∙ found-triple w o in
     let genuine = verified .verify .ensures .0 ∙ ap (λ (x : Triple). genuine? (x .r) (x .e1) (x .e2) blocks tag) t in
-    let first = tested .unless .ensures ∙ ap (λ (d : Decapsulation). unless (d .found) DecapsulationFailure Done) found ∙ found-answer o in
+    let first = tested .unless .ensures ∙ ap (λ (d : Decapsulation). unless (d .found) DecapsulationFailure Done) found ∙ found-answer w o in
     let second = c .before .before .before .before .unless2 .ensures ∙ ap (λ (x : Bool). unless x TagMismatch Done) genuine in (
       c .and-then3 .ensures
           ∙ ap (andThen (args .key .answer))
           (c .before .and-then2 .ensures
           ∙ ap (andThen (args .c .answer)) (c .before .before .and-then .ensures ∙ ap₂ andThen first second ∙ verified-answer o blocks tag)),
-      verified .verify .ensures .1 ∙ ap tripleKey0 t,
+      (verified .verify .ensures .1 ∙ ap tripleKey0 t, ap (λ (d : Decapsulation). d .quotients) found ∙ found-quotients w o),
     )
 
 pub recover-spec : {M : Type 1} → statement M

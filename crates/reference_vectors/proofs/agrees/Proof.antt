@@ -29,11 +29,17 @@ open-batch-case-agrees-requires c κs = search needs
 enum-told-3 : tie.Need-enum-told-3
 enum-told-3 c = search needs
 
-noise-agrees-requires : tie.Need-noise-agrees-requires
-noise-agrees-requires c κs = search needs
+open-margin-case-agrees-requires : tie.Need-open-margin-case-agrees-requires
+open-margin-case-agrees-requires c κs = search needs
 
 enum-told-4 : tie.Need-enum-told-4
 enum-told-4 c = search needs
+
+noise-agrees-requires : tie.Need-noise-agrees-requires
+noise-agrees-requires c κs = search needs
+
+enum-told-5 : tie.Need-enum-told-5
+enum-told-5 c = search needs
 
 desk-agrees-requires : tie.Need-desk-agrees-requires
 desk-agrees-requires c κs = search needs
@@ -51,10 +57,13 @@ returns-4 : tie.Need-returns-4
 returns-4 c = rw (c .before .enum-told2 .given .1) (c .open-batch-case-agrees .ensures)
 
 returns-5 : tie.Need-returns-5
-returns-5 c = rw (c .before .enum-told3 .given .1) (c .noise-agrees .ensures)
+returns-5 c = rw (c .before .enum-told3 .given .1) (c .open-margin-case-agrees .ensures)
 
 returns-6 : tie.Need-returns-6
-returns-6 c = rw (c .before .enum-told4 .given .1) (c .desk-agrees .ensures)
+returns-6 c = rw (c .before .enum-told4 .given .1) (c .noise-agrees .ensures)
+
+returns-7 : tie.Need-returns-7
+returns-7 c = rw (c .before .enum-told5 .given .1) (c .desk-agrees .ensures)
 
 pub agrees-spec : {M : Type 1} → statement M
 agrees-spec =
@@ -69,12 +78,15 @@ agrees-spec =
     enum-told-2
     open-batch-case-agrees-requires
     enum-told-3
-    noise-agrees-requires
+    open-margin-case-agrees-requires
     enum-told-4
+    noise-agrees-requires
+    enum-told-5
     desk-agrees-requires
     returns
     returns-2
     returns-3
     returns-4
     returns-5
-    returns-6)
+    returns-6
+    returns-7)

@@ -1,7 +1,7 @@
 use mathlib.Core.Path.{ap, _∙_}
 use mir.Syntax.{w16, w32}
 use Rattle.ring.specs.Centred.{residue}
-use Rattle.sampling.proofs.SignedValues.{widened-fits, widened}
+use Rattle.ring.proofs.SignedValues.{widened-fits, widened}
 use borrow.Author.Needs.{needs}
 use Rattle.sampling.proofs.coefficient.Statement.{statement}
 use Rattle.sampling.proofs.coefficient.Tie as tie

@@ -7,7 +7,7 @@ use mir.Syntax.{w16}
 use Rattle.lists.proofs.Fill.{Filled, filled-none, filled-more, filled-all}
 use Rattle.ring.specs.Ring.{n}
 use Rattle.ring.specs.Centred.{residue}
-use Rattle.sampling.proofs.SignedValues.{read-back}
+use Rattle.ring.proofs.SignedValues.{read-back}
 use borrow.Author.Needs.{needs}
 use Rattle.sampling.proofs.coefficients.Statement.{statement}
 use Rattle.sampling.proofs.coefficients.Tie as tie

@@ -8,7 +8,7 @@ use mir.Syntax.{w8, w16}
 use Rattle.lists.specs.Table.{table}
 use Rattle.lists.proofs.Tables.{getD-table}
 use Rattle.sampling.specs.Noise.{fourBits}
-use Rattle.sampling.proofs.SignedValues.{widened-fits, widened}
+use Rattle.ring.proofs.SignedValues.{widened-fits, widened}
 use borrow.Author.Needs.{needs}
 use Rattle.sampling.proofs.noise.Statement.{statement}
 use Rattle.sampling.proofs.noise.Tie as tie

@@ -10,7 +10,7 @@ use Rattle.encoding.proofs.Digits.{digit-first, digit-in, digit-missing}
 use Rattle.sampling.specs.Noise.{fourBits, nibbleAt}
 use Rattle.sampling.proofs.NoiseLaws.{fourBits-none}
 use Rattle.sampling.proofs.FrontFill.{FrontFilled, front-filled-start, front-filled-next, front-filled-all}
-use Rattle.sampling.proofs.SignedValues.{read-back}
+use Rattle.ring.proofs.SignedValues.{read-back}
 use borrow.Author.Needs.{needs}
 use Rattle.sampling.proofs.signed_noise.Statement.{statement}
 use Rattle.sampling.proofs.signed_noise.Tie as tie

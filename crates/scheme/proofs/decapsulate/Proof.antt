@@ -5,8 +5,9 @@ use lib.ListN.{length}
 use Rattle.exactness.specs.Scheme as Any
 use Rattle.ntt.specs.Spectrum.{coefficientsOf}
 use Rattle.ring.specs.Ring.{product}
+use Rattle.ring.specs.Centred.{quotients}
 use Rattle.ring.proofs.Transforms.{product-by-spectra}
-use Rattle.scheme.specs.Scheme.{core}
+use Rattle.scheme.specs.Scheme.{core, phase}
 use Rattle.scheme.specs.declared.Decapsulation.{Decapsulation}
 use Rattle.scheme.specs.Answers.{tripleOf, answer}
 use Rattle.scheme.proofs.Steps.{summed-through, summed-size}
@@ -40,7 +41,7 @@ returns c =
     let s1 = ap coefficientsOf (sums .add-dummy .ensures .0) ∙ summed-through (coefficientsOf (args .a)) (args .dummy .r) (args .dummy .e1) (args .c .c1) in
     let s2 = ap coefficientsOf (sums .add-dummy .ensures .1) ∙ summed-through (coefficientsOf (args .b)) (args .dummy .r) (args .dummy .e2) (args .c .c2) in
     let outcome : List ℕ → List ℕ → List ℕ → Decapsulation = λ s1 s2 s1s.
-    answer (core (coefficientsOf (args .a)) (coefficientsOf (args .inverse)) (tripleOf (args .dummy)) s1 s2 s1s) in
+    answer (core (coefficientsOf (args .a)) (coefficientsOf (args .inverse)) (tripleOf (args .dummy)) s1 s2 s1s) (quotients (phase s2 s1s)) in
     c .core .ensures
     ∙ ap (outcome _ _) (ap coefficientsOf (c .before .pointwise .ensures) ∙ product-by-spectra first (args .s) size hs)
     ∙ ap₂ (λ (s1 s2 : List ℕ). outcome s1 s2 (product s1 (coefficientsOf (args .s)))) s1 s2

@@ -1,6 +1,6 @@
 use mathlib.Core.Path.{_≡_, sym, ap, ap₂, _∙_}
 use mathlib.Core.Bool.{true, false, _&&_}
-use Rattle.scheme.specs.Scheme.{Triple, found, withoutDummy, recovers?, ternary?}
+use Rattle.scheme.specs.Scheme.{Triple, Outcome, found, withoutDummy, recovers?, ternary?}
 use Rattle.scheme.specs.Answers.{tripleOf, answer}
 use Rattle.scheme.proofs.Steps.{judged-found, judged-failed}
 use borrow.Author.Needs.{needs}
@@ -22,7 +22,8 @@ returns c =
     let args = at .before .before .before .args in
     let u = at .before .subtract-dummy .ensures in
     let tests = ap₂ _&&_ (at .before .before .recovers .ensures) (at .is-ternary .ensures ∙ ap ternary? u) in
-    ap (λ (x : Triple). answer (found x)) u ∙ sym (ap answer (judged-found (tripleOf (args .dummy)) (tripleOf (args .t)) (sym tests ∙ c .if1 .taken)))
+    ap (λ (x : Triple). answer (found x) (args .w)) u
+    ∙ sym (ap (λ (o : Outcome). answer o (args .w)) (judged-found (tripleOf (args .dummy)) (tripleOf (args .t)) (sym tests ∙ c .if1 .taken)))
 
 returns-2 : tie.Need-returns-2
 returns-2 c =
@@ -30,7 +31,7 @@ returns-2 c =
     let args = at .before .before .before .args in
     let u = at .before .subtract-dummy .ensures in
     let tests = ap₂ _&&_ (at .before .before .recovers .ensures) (at .is-ternary .ensures ∙ ap ternary? u) in
-    sym (ap answer (judged-failed (tripleOf (args .dummy)) (tripleOf (args .t)) (sym tests ∙ c .if1 .left)))
+    sym (ap (λ (o : Outcome). answer o (args .w)) (judged-failed (tripleOf (args .dummy)) (tripleOf (args .t)) (sym tests ∙ c .if1 .left)))
 
 pub judge-spec : {M : Type 1} → statement M
 judge-spec =

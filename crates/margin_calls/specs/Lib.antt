@@ -1,0 +1,4 @@
+-- What opening with margin gives.
+pub mod Calls
+-- What is promised of it.
+pub mod Promises

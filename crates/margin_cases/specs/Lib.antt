@@ -1,0 +1,2 @@
+-- What the contracts of `margin_cases` cite.
+pub mod MarginCases

@@ -1,0 +1,2 @@
+-- The margin by what is answered.
+pub mod Laws

@@ -1,0 +1,2 @@
+-- The largest size among integers.
+pub mod Largest
