@@ -4,7 +4,8 @@
  * the public key (polka_seal); the desk opens them (polka_open). A batch has up to 255 entries under one encapsulation (polka_seal_batch,
  * polka_open_batch). polka_encapsulate and polka_decapsulate are the scheme without an entry. A secret key of version 2 is expanded: it
  * carries the inverse of b, which then need not be found at each opening (polka_expand_secret_key, polka_compact_secret_key). The openings
- * and polka_check_secret_key take either version.
+ * and polka_check_secret_key take either version. Service staff at the desk see how near an opening came to its edge
+ * (polka_open_with_margin).
  *
  * For all calls:
  * - A buffer is a pointer and its length in bytes. The pointer is not null, also where the length is 0.
@@ -24,7 +25,7 @@
  * - The library keeps no state: calls may run at the same time on several threads.
  * - It draws no random bytes: streams, seeds and noise come from the caller. They must be uniform and new for every call, and noise is
  *   secret.
- * - The caller overwrites secrets that are no longer needed.
+ * - The caller overwrites secrets that are no longer needed; the margin of polka_open_with_margin is one.
  * - It needs memcpy and memset of its surroundings and nothing else: no heap, no system call.
  *
  * What is proved of the calls, what that rests on, and what no proof says (time, caches, secrets left on the stack, and that this header
@@ -48,11 +49,12 @@
  * 0.5: adds batches, polka_seal_batch and polka_open_batch, and the number 12, POLKA_WRONG_COUNT, which they alone answer.
  * 0.6: adds expanded secret keys, polka_expand_secret_key and polka_compact_secret_key, the number 13, POLKA_INVERSE_MISMATCH, and the part
  * POLKA_PART_STORED_INVERSE. The calls that are lent a secret key take either version, and tell its mark and version, 2 and 3, before a
- * length that is not its version's; only one under 5 bytes is still 1 before them. Before, every other length was 1 first. */
+ * length that is not its version's; only one under 5 bytes is still 1 before them. Before, every other length was 1 first.
+ * 0.7: adds polka_open_with_margin and POLKA_LARGEST_MARGIN. What was there before answers as it did. */
 #define POLKA_VERSION_MAJOR 0
-#define POLKA_VERSION_MINOR 6
+#define POLKA_VERSION_MINOR 7
 #define POLKA_VERSION_PATCH 0
-#define POLKA_VERSION "0.6.0"
+#define POLKA_VERSION "0.7.0"
 
 /* The compiler warns where an answer is not looked at. */
 #if (defined(__cplusplus) && __cplusplus >= 201703L) || (defined(__STDC_VERSION__) && __STDC_VERSION__ >= 202311L)
@@ -87,6 +89,9 @@ extern "C" {
 #define POLKA_BATCH_MOST_ENTRIES 255
 #define POLKA_BATCH_LENGTH(entries) (4119 + POLKA_ENTRY_LENGTH * (size_t)(entries))
 
+/* The largest margin of a sealed entry that opens. */
+#define POLKA_LARGEST_MARGIN 4096
+
 /* The stack that each call takes at most, in bytes, what memcpy and memset take aside. Measured, not proved: tests/stack.sh fails where a
  * call takes more. No call takes more for longer input. */
 #define POLKA_KEYGEN_STACK (59 * 1024)
@@ -95,11 +100,12 @@ extern "C" {
 #define POLKA_EXPAND_SECRET_KEY_STACK (88 * 1024)
 #define POLKA_COMPACT_SECRET_KEY_STACK (84 * 1024)
 #define POLKA_ENCAPSULATE_STACK (61 * 1024)
-#define POLKA_DECAPSULATE_STACK (106 * 1024)
+#define POLKA_DECAPSULATE_STACK (108 * 1024)
 #define POLKA_SEAL_STACK (61 * 1024)
-#define POLKA_OPEN_STACK (102 * 1024)
+#define POLKA_OPEN_STACK (108 * 1024)
+#define POLKA_OPEN_WITH_MARGIN_STACK (110 * 1024)
 #define POLKA_SEAL_BATCH_STACK (61 * 1024)
-#define POLKA_OPEN_BATCH_STACK (102 * 1024)
+#define POLKA_OPEN_BATCH_STACK (108 * 1024)
 #define POLKA_SHAKE128_STACK (2 * 1024)
 #define POLKA_SHAKE256_STACK (2 * 1024)
 
@@ -236,6 +242,22 @@ uint32_t polka_open(const uint8_t *secret_key, size_t secret_key_length,   /* PO
                     const uint8_t *sealed, size_t sealed_length,           /* POLKA_SEALED_ENTRY_LENGTH */
                     const uint8_t *dummy_noise, size_t dummy_noise_length, /* POLKA_TRIPLE_NOISE_LENGTH */
                     uint8_t *entry, size_t entry_length);                  /* POLKA_ENTRY_LENGTH, written */
+
+/* Opens a sealed entry as polka_open does, and under 0 also writes to *margin how near the opening came to its edge, for the desk's
+ * service screen: the largest size of a coefficient of w, where m = E2 + 5 w in steps 2 and 3 of document 01's opening, m centred and E2
+ * from -2 to 2. A larger margin is nearer to the edge. It is at most POLKA_LARGEST_MARGIN, and at most 2 W under a key whose s and e have W
+ * nonzero coefficients together; on any input w is at most 5,939 in size. Number and entry are those of polka_open, which no dummy changes.
+ * The margin does vary with the dummy; under one dummy both versions of a sound key give the same.
+ * The margin belongs to the desk's secret side: it tells about the secret key and the triple. Show it to service staff at the desk only;
+ * never send it to a console, nor write it to a log that leaves the desk.
+ * Answers 0; 1 where the key has less than 5 bytes, or for any other buffer; for the key 2, 3, 1 (its version's length), 4, 5, 6 or 13, 7,
+ * as polka_check_secret_key; for the sealed entry 2, 3, 11; 9; 10. */
+POLKA_ANSWER
+uint32_t polka_open_with_margin(const uint8_t *secret_key, size_t secret_key_length,   /* POLKA_SECRET_KEY_LENGTH, or expanded */
+                                const uint8_t *sealed, size_t sealed_length,           /* POLKA_SEALED_ENTRY_LENGTH */
+                                const uint8_t *dummy_noise, size_t dummy_noise_length, /* POLKA_TRIPLE_NOISE_LENGTH */
+                                uint8_t *entry, size_t entry_length,                   /* POLKA_ENTRY_LENGTH, written */
+                                uint32_t *margin);                                     /* one number, written */
 
 /* Seals 1 to 255 entries as one batch: 16 bytes an entry and one encapsulation for all of them, where polka_seal makes one for each. The
  * noise is the whole secret of this one sealing. The public key is judged as by polka_seal.

@@ -62,8 +62,9 @@ by_function() {
 
 calls=("$@")
 [ "${#calls[@]}" -gt 0 ] || calls=(keygen keygen_from_seed check_secret_key check_secret_key_expanded expand_secret_key
-    compact_secret_key encapsulate encapsulate_seeded decapsulate decapsulate_expanded seal seal_seeded open open_expanded seal_batch_1
-    seal_batch_255 seal_batch_seeded_255 open_batch_1 open_batch_255 open_batch_expanded_255 shake128 shake256)
+    compact_secret_key encapsulate encapsulate_seeded decapsulate decapsulate_expanded seal seal_seeded open open_expanded open_with_margin
+    open_with_margin_expanded seal_batch_1 seal_batch_255 seal_batch_seeded_255 open_batch_1 open_batch_255 open_batch_expanded_255
+    shake128 shake256)
 for call in "${calls[@]}"; do
     echo "memcheck with the secrets of $call marked undefined"
     if ! valgrind -s --track-origins=yes --error-limit=no --num-callers=6 "$room/secrets" "$call" >"$room/stdout" 2>"$room/report"; then

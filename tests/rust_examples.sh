@@ -15,11 +15,12 @@ examples=$room/target/release/examples
 
 "$examples/seal_and_open" | tee "$room/output"
 if grep -qx 'opened "lane 4, 00:47.52"' "$room/output" && grep -q '^with a changed tag: .*(10, bad tag)$' "$room/output" &&
+    grep -qEx 'opened "lane 4, 00:47.52" with margin [0-9]+ of at most 4096' "$room/output" &&
     grep -q '^with a damaged word: .*: sealed entry, c2, word 17 (11, off the ring)$' "$room/output" &&
     grep -qx 'opened "lane 3, 00:48.10", "lane 4, 00:47.52", "lane 5, 00:47.90"' "$room/output" &&
     grep -q '^without its last entry: .*(10, bad tag)$' "$room/output" &&
     grep -qx 'opened "lane 4, 00:47.52" with it' "$room/output" && grep -q '^compact again: .*, the same$' "$room/output"; then
-    echo "ok: an entry and a batch sealed, opened, and refused when damaged; a key expanded and compacted"
+    echo "ok: an entry and a batch sealed, opened, and refused when damaged; a margin; a key expanded and compacted"
 else
     echo "WRONG: the example printed something else"
     exit 1

@@ -1,6 +1,6 @@
-/* Makes a key pair from the system's random bytes, seals an entry, opens it, and shows that a changed tag is refused, and a damaged word,
- * which is named. Then it seals a heat as one batch, opens it, also with the expanded key, which it makes compact again, and shows that one
- * entry less is refused. */
+/* Makes a key pair from the system's random bytes, seals an entry, opens it, once more with its margin, and shows that a changed tag is
+ * refused, and a damaged word, which is named. Then it seals a heat as one batch, opens it, also with the expanded key, which it makes
+ * compact again, and shows that one entry less is refused. */
 #include <stdio.h>
 #include <stdlib.h>
 #include <string.h>
@@ -68,6 +68,21 @@ static uint32_t show_opening(const char *what, const uint8_t secret_key[POLKA_SE
     return answer;
 }
 
+/* What a service screen shows. It stands at the desk: the margin tells about the secret key, and goes nowhere else. */
+static uint32_t show_margin(const uint8_t secret_key[POLKA_SECRET_KEY_LENGTH], const uint8_t sealed[POLKA_SEALED_ENTRY_LENGTH],
+                            uint8_t entry[POLKA_ENTRY_LENGTH]) {
+    uint8_t dummy[POLKA_TRIPLE_NOISE_LENGTH];
+    uint32_t margin = 0;
+    fill(dummy, sizeof dummy);
+    uint32_t answer = polka_open_with_margin(secret_key, POLKA_SECRET_KEY_LENGTH, sealed, POLKA_SEALED_ENTRY_LENGTH, dummy, sizeof dummy,
+                                             entry, POLKA_ENTRY_LENGTH, &margin);
+    explicit_bzero(dummy, sizeof dummy);
+    printf("open with margin: %u \"%.*s\", margin %u of at most %u\n", (unsigned)polka_number(answer), POLKA_ENTRY_LENGTH,
+           (const char *)entry, (unsigned)margin, (unsigned)POLKA_LARGEST_MARGIN);
+    explicit_bzero(&margin, sizeof margin);
+    return answer;
+}
+
 /* Whether all went as it should. */
 static int one_entry(const uint8_t public_key[POLKA_PUBLIC_KEY_LENGTH], const uint8_t secret_key[POLKA_SECRET_KEY_LENGTH]) {
     static uint8_t sealed[POLKA_SEALED_ENTRY_LENGTH];
@@ -81,6 +96,12 @@ static int one_entry(const uint8_t public_key[POLKA_PUBLIC_KEY_LENGTH], const ui
     }
 
     answer = show_opening("open", secret_key, sealed, opened);
+    if (answer != POLKA_DONE || memcmp(entry, opened, POLKA_ENTRY_LENGTH) != 0) {
+        return 0;
+    }
+
+    memset(opened, '.', sizeof opened);
+    answer = show_margin(secret_key, sealed, opened);
     if (answer != POLKA_DONE || memcmp(entry, opened, POLKA_ENTRY_LENGTH) != 0) {
         return 0;
     }

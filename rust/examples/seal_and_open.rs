@@ -1,11 +1,11 @@
-//! Makes a key pair from the system's random bytes, seals an entry, opens it, and shows that a changed tag is refused, and a damaged word,
-//! which is named. Then it seals a heat as one batch, opens it, and shows that one entry less is refused. Last it expands the key, opens an
-//! entry with that, and makes it compact again.
+//! Makes a key pair from the system's random bytes, seals an entry, opens it, once more with its margin, and shows that a changed tag is
+//! refused, and a damaged word, which is named. Then it seals a heat as one batch, opens it, and shows that one entry less is refused. Last
+//! it expands the key, opens an entry with that, and makes it compact again.
 use std::error::Error;
 use std::fs::File;
 use std::io::Read;
 
-use polka::{Entry, KeyNoise, PublicKey, SealedBatch, SealedEntry, SecretKey, TripleNoise, UniformStream};
+use polka::{Entry, KeyNoise, Margin, PublicKey, SealedBatch, SealedEntry, SecretKey, TripleNoise, UniformStream};
 
 fn make_key(random: &mut File) -> Result<(PublicKey, SecretKey), Box<dyn Error>> {
     loop {
@@ -36,6 +36,10 @@ fn one_entry(public_key: &PublicKey, secret_key: &SecretKey, random: &mut File) 
 
     let opened = polka::open(secret_key, &sealed, noise(random)?)?;
     println!("opened \"{}\"", text(&opened));
+
+    // for the service screen, which stands at the desk: the margin tells about the secret key, and goes nowhere else
+    let (opened, margin) = polka::open_with_margin(secret_key, &sealed, noise(random)?)?;
+    println!("opened \"{}\" with margin {} of at most {}", text(&opened), margin.value(), Margin::LARGEST);
 
     let mut changed = *sealed.as_bytes();
     changed[SealedEntry::LENGTH - 1] ^= 1;

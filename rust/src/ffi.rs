@@ -82,6 +82,17 @@ mod archive {
             entry: *mut u8,
             entry_length: usize,
         ) -> u32;
+        pub fn polka_open_with_margin(
+            secret_key: *const u8,
+            secret_key_length: usize,
+            sealed: *const u8,
+            sealed_length: usize,
+            dummy_noise: *const u8,
+            dummy_noise_length: usize,
+            entry: *mut u8,
+            entry_length: usize,
+            margin: *mut u32,
+        ) -> u32;
         pub fn polka_seal_batch(
             public_key: *const u8,
             public_key_length: usize,
@@ -215,6 +226,22 @@ pub fn open(secret_key: &[u8], sealed: &[u8], dummy_noise: &[u8], entry: &mut [u
     }
 }
 
+pub fn open_with_margin(secret_key: &[u8], sealed: &[u8], dummy_noise: &[u8], entry: &mut [u8], margin: &mut u32) -> u32 {
+    unsafe {
+        archive::polka_open_with_margin(
+            secret_key.as_ptr(),
+            secret_key.len(),
+            sealed.as_ptr(),
+            sealed.len(),
+            dummy_noise.as_ptr(),
+            dummy_noise.len(),
+            entry.as_mut_ptr(),
+            entry.len(),
+            margin,
+        )
+    }
+}
+
 pub fn seal_batch(public_key: &[u8], noise: &[u8], entries: &[u8], batch: &mut [u8]) -> u32 {
     unsafe {
         archive::polka_seal_batch(
@@ -254,12 +281,12 @@ pub fn shake256(input: &[u8], out: &mut [u8]) {
     unsafe { archive::polka_shake256(input.as_ptr(), input.len(), out.as_mut_ptr(), out.len()) }
 }
 
-/// Overwrites bytes with zeros by volatile writes, which the compiler may not leave out although nobody reads them again, and moves none
-/// of them past the fence.
-pub fn wipe(bytes: &mut [u8]) {
-    for byte in bytes {
-        // SAFETY: the pointer is that of a byte borrowed for writing.
-        unsafe { core::ptr::write_volatile(byte, 0) }
+/// Overwrites bytes, or larger numbers, with zeros by volatile writes, which the compiler may not leave out although nobody reads them
+/// again, and moves none of them past the fence.
+pub fn wipe<T: Copy + From<u8>>(numbers: &mut [T]) {
+    for number in numbers {
+        // SAFETY: the pointer is that of a number borrowed for writing.
+        unsafe { core::ptr::write_volatile(number, 0.into()) }
     }
     core::sync::atomic::compiler_fence(core::sync::atomic::Ordering::SeqCst);
 }

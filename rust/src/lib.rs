@@ -3,9 +3,10 @@
 //! A desk makes a key pair ([`keygen`], or [`keygen_from_seed`] for a public key half as long); a console seals 16-byte entries under the
 //! public key ([`seal`]); the desk opens them ([`open`]). A batch has up to 255 entries under one encapsulation ([`seal_batch`],
 //! [`open_batch`]). [`encapsulate`] and [`decapsulate`] are the scheme without an entry. A desk may keep its key expanded, with the inverse
-//! of b, which then need not be found at each opening ([`expand_secret_key`], [`compact_secret_key`]). Every call judges the records that it
-//! is lent, in the order that documents 01 and 02, the buyer's scope and change requests, fix, and answers [`Error`] at the first fault.
-//! Where that is a word off the ring, it has a [`Location`]: which record is damaged, and where.
+//! of b, which then need not be found at each opening ([`expand_secret_key`], [`compact_secret_key`]). Its service staff see how near an
+//! opening came to its edge ([`open_with_margin`]). Every call judges the records that it is lent, in the order that documents 01 and 02,
+//! the buyer's scope and change requests, fix, and answers [`Error`] at the first fault. Where that is a word off the ring, it has a
+//! [`Location`]: which record is damaged, and where.
 //!
 //! The library draws no random bytes. Streams, seeds and noise come from the caller and must be uniform and new each time. Noise is secret
 //! too: it is taken by value and cannot be copied, so that none is used twice by accident.
@@ -64,6 +65,7 @@ mod error;
 #[allow(unsafe_code)]
 mod ffi;
 mod location;
+mod margin;
 mod records;
 
 use alloc::vec::Vec;
@@ -72,6 +74,7 @@ use records::Entries;
 
 pub use error::Error;
 pub use location::{Location, Part, Record};
+pub use margin::Margin;
 pub use records::{
     Encapsulation, Entry, ExpandedSecretKey, KeyNoise, PublicKey, PublicRecord, SealedBatch, SealedEntry, SecretKey, SecretRecord, Seed,
     SeededPublicKey, Triple, TripleNoise, UniformStream,
@@ -218,6 +221,56 @@ pub fn open(secret_key: &(impl SecretRecord + ?Sized), sealed: &SealedEntry, dum
     let mut entry = Entry::zeros();
     Error::judge(ffi::open(secret_key.as_slice(), sealed.as_bytes(), dummy_noise.as_bytes(), entry.as_mut_bytes()))?;
     Ok(entry)
+}
+
+/// Opens a sealed entry as [`open`] does, and tells how near the opening came to its edge, for the desk's service screen. Entry and refusal
+/// are those of [`open`], and the dummy noise has no part in them. The margin does vary with it, and belongs to the desk's secret side: it
+/// tells about the secret key and the triple. Show it to service staff at the desk only; never send it to a console, nor write it to a log
+/// that leaves the desk.
+///
+/// ```
+/// use std::fs::File;
+/// use std::io::Read;
+///
+/// use polka::{Entry, Error, KeyNoise, Margin, Seed, TripleNoise};
+///
+/// let mut random = File::open("/dev/urandom")?;
+/// let (public_key, secret_key) = loop {
+///     let seed = Seed::filled_by(|bytes| random.read_exact(bytes))?;
+///     let noise_s = KeyNoise::filled_by(|bytes| random.read_exact(bytes))?;
+///     let noise_e = KeyNoise::filled_by(|bytes| random.read_exact(bytes))?;
+///     match polka::keygen_from_seed(&seed, noise_s, noise_e) {
+///         Err(Error::NotInvertible | Error::StreamExhausted) => continue,
+///         answer => break answer?,
+///     }
+/// };
+///
+/// let noise = TripleNoise::filled_by(|bytes| random.read_exact(bytes))?;
+/// let sealed = polka::seal(&public_key, noise, &Entry::from(b"lane 4, 00:47.52"))?;
+/// let dummy = TripleNoise::filled_by(|bytes| random.read_exact(bytes))?;
+/// let (entry, margin) = polka::open_with_margin(&secret_key, &sealed, dummy)?;
+/// assert_eq!(entry.as_bytes(), b"lane 4, 00:47.52");
+///
+/// // The service screen shows the number; `Debug` does not, so that no log has it by accident.
+/// assert!(margin.value() <= Margin::LARGEST);
+/// assert_eq!(format!("{margin:?}"), "Margin(a secret number)");
+/// # Ok::<(), Box<dyn std::error::Error>>(())
+/// ```
+pub fn open_with_margin(
+    secret_key: &(impl SecretRecord + ?Sized),
+    sealed: &SealedEntry,
+    dummy_noise: TripleNoise,
+) -> Result<(Entry, Margin), Error> {
+    let mut entry = Entry::zeros();
+    let mut margin = Margin::zero();
+    Error::judge(ffi::open_with_margin(
+        secret_key.as_slice(),
+        sealed.as_bytes(),
+        dummy_noise.as_bytes(),
+        entry.as_mut_bytes(),
+        margin.as_mut_number(),
+    ))?;
+    Ok((entry, margin))
 }
 
 /// Seals 1 to 255 entries as one batch under a public key of either record. That takes 16 bytes an entry and one encapsulation for all of

@@ -284,8 +284,9 @@ impl PublicRecord for SeededPublicKey {
 }
 
 /// A secret key as one of its two versions, [`SecretKey`] or [`ExpandedSecretKey`]. [`check_secret_key`](crate::check_secret_key),
-/// [`decapsulate`](crate::decapsulate), [`open`](crate::open) and [`open_batch`](crate::open_batch) take either, also as a
-/// `dyn SecretRecord`, and answer the same under both where a, b and s are those of a sound key.
+/// [`decapsulate`](crate::decapsulate), [`open`](crate::open), [`open_with_margin`](crate::open_with_margin) and
+/// [`open_batch`](crate::open_batch) take either, also as a `dyn SecretRecord`, and answer the same under both where a, b and s are those
+/// of a sound key.
 ///
 /// What points to a key, like `Arc<SecretKey>`, is lent in its place.
 pub trait SecretRecord: sealed::Sealed {
@@ -326,9 +327,12 @@ mod sealed {
 mod tests {
     #[test]
     fn wiping_leaves_zeros() {
-        let mut bytes = [0xab; 100];
+        let mut bytes = [0xab_u8; 100];
         crate::ffi::wipe(&mut bytes[10..90]);
         assert!(bytes[10..90].iter().all(|&byte| byte == 0));
         assert!(bytes[..10].iter().chain(&bytes[90..]).all(|&byte| byte == 0xab));
+        let mut numbers = [0xabab_abab_u32; 3];
+        crate::ffi::wipe(&mut numbers[1..2]);
+        assert_eq!(numbers, [0xabab_abab, 0, 0xabab_abab]);
     }
 }

@@ -1,5 +1,5 @@
-//! include/polka.h and this package say the same: lengths, numbers, words, what a code holds, version. Linking looks only at the names of
-//! calls: that their arguments fit shows in the vectors, which both C and Rust run.
+//! include/polka.h and this package say the same: lengths, the largest margin, numbers, words, what a code holds, version. Linking looks
+//! only at the names of calls: that their arguments fit shows in the vectors, which both C and Rust run.
 mod common;
 
 use std::fs;
@@ -8,7 +8,7 @@ use std::process::Command;
 
 use common::random::Random;
 use polka::{
-    Encapsulation, Entry, Error, ExpandedSecretKey, KeyNoise, Part, PublicKey, Record, SealedBatch, SealedEntry, SecretKey, Seed,
+    Encapsulation, Entry, Error, ExpandedSecretKey, KeyNoise, Margin, Part, PublicKey, Record, SealedBatch, SealedEntry, SecretKey, Seed,
     SeededPublicKey, Triple, TripleNoise, UniformStream,
 };
 
@@ -49,6 +49,11 @@ fn lengths() {
     let defined = names.filter(|name| name.ends_with("_LENGTH"));
     assert_eq!(defined.count(), all.len());
     assert_eq!(value("POLKA_BATCH_MOST_ENTRIES"), SealedBatch::MOST_ENTRIES.to_string());
+}
+
+#[test]
+fn largest_margin() {
+    assert_eq!(value("POLKA_LARGEST_MARGIN"), Margin::LARGEST.to_string());
 }
 
 /// WrongLength is WRONG_LENGTH; what a case carries is left out.

@@ -12,7 +12,7 @@ fn compare(count: &mut Count, case: &Case) {
     count.add(&case.name, &run(&REFERENCE, case), &run(&LIBRARY, case));
 }
 
-/// New keys, noise, entries and dummies, and a batch of every size: the bytes written are the same.
+/// New keys, noise, entries and dummies, and a batch of every size: the bytes and numbers written are the same.
 #[test]
 fn sound_cases() {
     let mut random = Random::new(301);

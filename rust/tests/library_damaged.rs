@@ -104,6 +104,16 @@ fn open_expanded() {
     each_alone("damaged, open with an expanded key", |sound| &sound.open_expanded, 120);
 }
 
+#[test]
+fn open_with_margin() {
+    each_alone("damaged, open_with_margin", |sound| &sound.open_with_margin, 125);
+}
+
+#[test]
+fn open_with_margin_expanded() {
+    each_alone("damaged, open_with_margin with an expanded key", |sound| &sound.open_with_margin_expanded, 126);
+}
+
 /// Few and many entries, with both ends.
 const SIZES: [usize; 5] = [1, 2, 3, 100, 255];
 
@@ -169,6 +179,8 @@ fn order_of_checks_on_secret_keys() {
             &sound.decapsulate_expanded,
             &sound.open,
             &sound.open_expanded,
+            &sound.open_with_margin,
+            &sound.open_with_margin_expanded,
         ] {
             in_order(&mut count, case);
         }
@@ -189,6 +201,7 @@ fn every_root() {
         &sound.compact_secret_key,
         &sound.decapsulate_expanded,
         &sound.open_expanded,
+        &sound.open_with_margin_expanded,
         &sound.open_batch_expanded,
     ] {
         for damage in damage::every_root(case) {
@@ -243,11 +256,13 @@ fn the_other_record() {
             other
         };
         let (entry, batch) = (&sound.open.inputs[1], &sound.open_batch.inputs[1]);
-        lend(&sound.open, batch, Some(1));
-        lend(&sound.open, &with(batch, 1, batch.len()), Some(1));
-        lend(&sound.open, &with(batch, 2, 4133), Some(3));
-        // c1 and c2 are those of another entry, so that there is a triple
-        lend(&sound.open, &with(batch, 1, 4133), Some(10));
+        for open in [&sound.open, &sound.open_with_margin] {
+            lend(open, batch, Some(1));
+            lend(open, &with(batch, 1, batch.len()), Some(1));
+            lend(open, &with(batch, 2, 4133), Some(3));
+            // c1 and c2 are those of another entry, so that there is a triple
+            lend(open, &with(batch, 1, 4133), Some(10));
+        }
         lend(&sound.open_batch, entry, Some(3));
         lend(&sound.open_batch, &with(entry, 1, batch.len()), Some(3));
         // the count is the first two bytes of a body

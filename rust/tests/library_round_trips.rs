@@ -5,7 +5,7 @@ use common::cases::Count;
 use common::random::Random;
 use common::reference;
 use polka::{
-    Encapsulation, Entry, Error, ExpandedSecretKey, KeyNoise, PublicKey, SealedBatch, SealedEntry, SecretKey, SecretRecord,
+    Encapsulation, Entry, Error, ExpandedSecretKey, KeyNoise, Margin, PublicKey, SealedBatch, SealedEntry, SecretKey, SecretRecord,
     SeededPublicKey, Triple, TripleNoise, UniformStream,
 };
 
@@ -210,13 +210,16 @@ fn element(bytes: &[u8]) -> reference::Element {
     bytes.chunks(2).map(|pair| u32::from(u16::from_le_bytes([pair[0], pair[1]]))).collect()
 }
 
-/// Of an entry, a batch and an encapsulation.
-type Answers = (Result<[u8; 16], Error>, Result<Vec<[u8; 16]>, Error>, Result<[u8; 768], Error>);
+/// Of an entry by both of its openings, a batch and an encapsulation.
+type Answers = ([Result<[u8; 16], Error>; 2], Result<Vec<[u8; 16]>, Error>, Result<[u8; 768], Error>);
 
-/// What the three openings answer with this key, each under a dummy of its own.
+/// What the four openings answer with this key, each under a dummy of its own.
 fn answers(key: &dyn SecretRecord, (sealed, batch, encapsulation): (&SealedEntry, &[u8], &Encapsulation), random: &mut Random) -> Answers {
     (
-        polka::open(key, sealed, noise(random)).map(|entry| *entry.as_bytes()),
+        [
+            polka::open(key, sealed, noise(random)).map(|entry| *entry.as_bytes()),
+            polka::open_with_margin(key, sealed, noise(random)).map(|(entry, _)| *entry.as_bytes()),
+        ],
         polka::open_batch(key, batch, noise(random)).map(|all| all.iter().map(|entry| *entry.as_bytes()).collect()),
         polka::decapsulate(key, encapsulation, triple(random)).map(|triple| *triple.as_bytes()),
     )
@@ -257,12 +260,118 @@ fn either_form_one_answer() {
             let lent = (&sealed.unwrap(), &batch[..], &encapsulation.unwrap());
             let forms: [&dyn SecretRecord; 2] = [&secret_key, &expanded_key];
             let given = [forms, forms].concat().into_iter().map(|form| answers(form, lent, &mut random)).collect::<Vec<_>>();
-            let sound = given[0].0.is_ok() && given[0].1.is_ok() && given[0].2.is_ok();
-            let as_it_should = if kind == "sound" { sound } else { kind != "of another key" || !sound };
+            let ([by_one, by_other], batch, triple) = &given[0];
+            let sound = by_one.is_ok() && batch.is_ok() && triple.is_ok();
+            let as_it_should = by_one == by_other && if kind == "sound" { sound } else { kind != "of another key" || !sound };
             count.agree(&format!("key {key}, {kind}"), as_it_should && given.iter().all(|one| *one == given[0]));
         }
     }
     count.finish();
+}
+
+/// s and e of a sound key.
+fn secrets(secret_key: &SecretKey) -> [reference::Element; 2] {
+    let bytes = secret_key.as_bytes();
+    let value = |code: u8| [0, 1, reference::Q - 1][usize::from(code & 3)];
+    let s = bytes[4101..].iter().flat_map(|byte| [0, 2, 4, 6].map(|shift| value(byte >> shift))).collect::<reference::Element>();
+    // b ÷ 5 − a × s; 5 × 35,636 is 1
+    let a_s = reference::product(&element(&bytes[5..2053]), &s);
+    let e = reference::difference(&reference::multiple(35_636, &element(&bytes[2053..4101])), &a_s);
+    [s, e]
+}
+
+/// The margin without an opening: w is e × R − E1 × s, where R and E1 are the sums of both r and of both e1.
+fn margin_of([s, e]: &[reference::Element; 2], sealing: &[u8; 1536], dummy: &[u8; 1536]) -> u32 {
+    let part = |noise: &[u8; 1536], at: usize| reference::from_noise(&noise[at..at + 512]);
+    let [r, e1] = [0, 512].map(|at| reference::sum(&part(sealing, at), &part(dummy, at)));
+    let w = reference::difference(&reference::product(e, &r), &reference::product(&e1, s));
+    w.iter().map(|&c| reference::centred(c).unsigned_abs()).max().unwrap()
+}
+
+fn nonzero(f: &[u32]) -> u32 {
+    f.iter().filter(|&&c| c != 0).count() as u32
+}
+
+/// Whether the entry opens to these bytes and with this margin.
+fn opens(key: &dyn SecretRecord, sealed: &SealedEntry, dummy: &[u8; 1536], bytes: &[u8; 16], margin: u32) -> bool {
+    let opened = polka::open_with_margin(key, sealed, TripleNoise::from(dummy));
+    opened.is_ok_and(|(entry, found)| entry.as_bytes() == bytes && found.value() == margin)
+}
+
+/// The margin is what key, triple and dummy make it, with either form of the key. It varies with the dummy.
+#[test]
+fn margins() {
+    let mut random = Random::new(209);
+    let mut count = Count::new("round trips, margins");
+    for key in 0..100 {
+        let (public_key, secret_key, _) = new_key(&mut random);
+        let expanded_key = polka::expand_secret_key(&secret_key).unwrap();
+        let secrets = secrets(&secret_key);
+        let bound = Margin::LARGEST.min(2 * (nonzero(&secrets[0]) + nonzero(&secrets[1])));
+        let (bytes, sealing): ([u8; 16], [u8; 1536]) = (random.array(), random.array());
+        let sealed = polka::seal(&public_key, TripleNoise::from(&sealing), &Entry::from(&bytes)).unwrap();
+        let mut margins = vec![];
+        for i in 0..8 {
+            let dummy: [u8; 1536] = random.array();
+            let margin = margin_of(&secrets, &sealing, &dummy);
+            let right = opens(&secret_key, &sealed, &dummy, &bytes, margin) && opens(&expanded_key, &sealed, &dummy, &bytes, margin);
+            count.agree(&format!("key {key}, dummy {i}"), right && margin <= bound);
+            margins.push(margin);
+        }
+        count.agree(&format!("key {key}, all dummies"), margins.iter().any(|margin| *margin != margins[0]));
+    }
+    count.finish();
+}
+
+/// The ternary f whose product with g has the largest size that there is, the count of g's nonzero coefficients, at this place and with
+/// this sign.
+fn matched(g: &[u32], place: usize, sign: i32) -> Vec<i32> {
+    let meets = |k: usize| sign * reference::centred(g[(place + reference::N - k) % reference::N]);
+    // above the place the product of both is behind X^1023, and X^1024 is −1
+    (0..reference::N).map(|k| if k <= place { meets(k) } else { -meets(k) }).collect()
+}
+
+/// Noise that is read as this: four bits 1 are 1, four bits 2 are −1.
+fn noise_bytes(f: &[i32]) -> Vec<u8> {
+    let four = |value: i32| value.rem_euclid(3) as u8;
+    f.chunks(2).map(|two| four(two[0]) | four(two[1]) << 4).collect()
+}
+
+/// Triples and dummies that bring one coefficient of w to its bound in size, twice the count of nonzero coefficients of s and e: 4,096
+/// where none of them is 0.
+#[test]
+fn largest_margins() {
+    let mut random = Random::new(210);
+    let mut count = Count::new("round trips, the largest margin of a key");
+    let mut largest = 0;
+    for key in 0..20 {
+        let full = key % 2 == 0;
+        let (public_key, secret_key) = loop {
+            // four bits 1 or 2: no coefficient is 0
+            let without_zero = |byte: u8| 1 << (byte & 1) | 16 << (byte >> 1 & 1);
+            let mut part = || -> [u8; 512] { random.array().map(|byte| if full { without_zero(byte) } else { byte }) };
+            let (noise_s, noise_e) = (KeyNoise::from(&part()), KeyNoise::from(&part()));
+            if let Ok(keys) = polka::keygen(&UniformStream::from(random.array()), noise_s, noise_e) {
+                break keys;
+            }
+        };
+        let expanded_key = polka::expand_secret_key(&secret_key).unwrap();
+        let secrets = secrets(&secret_key);
+        let margin = 2 * (nonzero(&secrets[0]) + nonzero(&secrets[1]));
+        for place in [0, 1, 511, 512, 1022, 1023, random.below(reference::N)] {
+            for sign in [1, -1] {
+                let front = [noise_bytes(&matched(&secrets[1], place, sign)), noise_bytes(&matched(&secrets[0], place, -sign))].concat();
+                let mut triple = || -> [u8; 1536] { [&front[..], &random.bytes(512)].concat().try_into().unwrap() };
+                let (bytes, sealing, dummy) = (*b"lane 4, 00:47.52", triple(), triple());
+                let sealed = polka::seal(&public_key, TripleNoise::from(&sealing), &Entry::from(&bytes)).unwrap();
+                let right = opens(&secret_key, &sealed, &dummy, &bytes, margin) && opens(&expanded_key, &sealed, &dummy, &bytes, margin);
+                count.agree(&format!("key {key}, place {place}, sign {sign}"), right && margin <= Margin::LARGEST);
+                largest = largest.max(margin);
+            }
+        }
+    }
+    count.finish();
+    assert_eq!(largest, Margin::LARGEST);
 }
 
 /// The dummy has no part in the answer, whether it is the entry, the triple or a refusal.
@@ -302,6 +411,8 @@ fn other_dummies_give_the_same_answer() {
         let answers: Vec<Result<[u8; 16], Error>> =
             dummies().into_iter().map(|dummy| polka::open(&secret_key, &sealed.into(), dummy).map(|entry| *entry.as_bytes())).collect();
         count.agree(&format!("key {key}, open"), answers.iter().all(|answer| *answer == answers[0]));
+        let with_margin = |dummy| polka::open_with_margin(&secret_key, &sealed.into(), dummy).map(|(entry, _)| *entry.as_bytes());
+        count.agree(&format!("key {key}, open_with_margin"), dummies().into_iter().all(|dummy| with_margin(dummy) == answers[0]));
         let answers: Vec<Result<Vec<[u8; 16]>, Error>> = dummies()
             .into_iter()
             .map(|dummy| polka::open_batch(&secret_key, &batch, dummy).map(|all| all.iter().map(|entry| *entry.as_bytes()).collect()))

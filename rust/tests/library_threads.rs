@@ -23,6 +23,12 @@ fn bad_word(place: usize) -> usize {
     4 * place
 }
 
+/// What an opening with margin answers under one dummy: entry and margin, or the refusal.
+fn with_margin(key: &dyn SecretRecord, sealed: &SealedEntry, dummy: &[u8; 1536]) -> Result<([u8; 16], u32), Error> {
+    let opened = polka::open_with_margin(key, sealed, TripleNoise::from(dummy));
+    opened.map(|(entry, margin)| (*entry.as_bytes(), margin.value()))
+}
+
 /// The entries of this record of the log and of those before it, in a batch.
 fn entries_until(log: &[([u8; 16], SealedEntry)], place: usize) -> Vec<Entry> {
     let start = (place + 1).saturating_sub(SealedBatch::MOST_ENTRIES);
@@ -53,13 +59,15 @@ fn two_threads_open_at_once() {
             (bytes, SealedEntry::from(sealed))
         })
         .collect();
+    let dummy: [u8; 1536] = random.array();
+    let before: Vec<_> = entries.iter().map(|(_, sealed)| with_margin(&secret_key, sealed, &dummy)).collect();
     let start = Barrier::new(2);
     let wrong = thread::scope(|scope| {
         let handles: Vec<_> = [402, 403]
             .into_iter()
             .map(|seed| {
                 let (start, entries, public_key, seeded_key) = (&start, &entries, &public_key, &seeded_key);
-                let (secret_key, expanded_key) = (&secret_key, &expanded_key);
+                let (secret_key, expanded_key, dummy, before) = (&secret_key, &expanded_key, &dummy, &before);
                 scope.spawn(move || {
                     let mut random = Random::new(seed);
                     start.wait();
@@ -72,6 +80,8 @@ fn two_threads_open_at_once() {
                             Ok(entry) => refusal(i).is_none() && entry.as_bytes() == bytes,
                             Err(error) => refusal(i) == Some(error),
                         };
+                        // the margin too is as it was on one thread
+                        let right = right && with_margin(key, sealed, dummy) == before[i];
                         // sealing in between under both records, so that the threads do not stay in step
                         let noise: [u8; 1536] = random.array();
                         let sealed = polka::seal(public_key, TripleNoise::from(&noise), &Entry::from(bytes));

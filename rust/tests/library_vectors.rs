@@ -57,6 +57,11 @@ fn open_sealed_before() {
 }
 
 #[test]
+fn open_with_margin() {
+    vectors::compare_open_with_margin(&LIBRARY);
+}
+
+#[test]
 fn seal_batch() {
     vectors::compare_seal_batch(&LIBRARY);
 }

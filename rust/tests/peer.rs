@@ -17,6 +17,7 @@ const FAST: Calls = Calls {
     decapsulate: fast::decapsulate,
     seal: fast::seal,
     open: fast::open,
+    open_with_margin: fast::open_with_margin,
     seal_batch: fast::seal_batch,
     open_batch: fast::open_batch,
     shake128: fast::shake128,
@@ -35,6 +36,7 @@ fn every_call_on_every_vector() {
     vectors::compare_seal(&FAST);
     vectors::compare_open(&FAST);
     vectors::compare_open_sealed_before(&FAST);
+    vectors::compare_open_with_margin(&FAST);
     vectors::compare_seal_batch(&FAST);
     vectors::compare_open_batch(&FAST);
     vectors::compare_shake128(&FAST);

@@ -56,6 +56,11 @@ fn open_sealed_before() {
 }
 
 #[test]
+fn open_with_margin() {
+    vectors::compare_open_with_margin(&REFERENCE);
+}
+
+#[test]
 fn seal_batch() {
     vectors::compare_seal_batch(&REFERENCE);
 }
@@ -127,13 +132,25 @@ fn noise() {
 
 #[test]
 fn remainders() {
-    let mut count = Count::new("vectors, centred values and remainders");
+    let mut count = Count::new("vectors, centred values, remainders and quotients");
     for vector in vectors::read("example_remainders", 1, 3) {
         let centred = reference::centred(vectors::number(&vector.inputs[0]));
-        let remainder = reference::remainder_by_5(centred);
-        let actual = [centred, remainder, (centred - remainder) / 5];
+        let actual = [centred, reference::remainder_by_5(centred), reference::quotient_by_5(centred)];
         let expected: Vec<i32> = vector.outputs.iter().map(|field| vectors::number(field) as i32).collect();
         count.agree(&vector.name, actual[..] == expected[..]);
+    }
+    count.finish();
+}
+
+/// Remainder and quotient are found apart from each other, and belong together at every word.
+#[test]
+fn division_of_every_word() {
+    let mut count = Count::new("every word, m = remainder + 5 x quotient");
+    for word in 0..reference::Q {
+        let m = reference::centred(word);
+        let (remainder, quotient) = (reference::remainder_by_5(m), reference::quotient_by_5(m));
+        let near = (-2..=2).contains(&remainder) && (-5939..=5939).contains(&quotient);
+        count.agree(&format!("word {word}"), near && m == remainder + 5 * quotient);
     }
     count.finish();
 }

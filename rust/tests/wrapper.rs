@@ -92,6 +92,8 @@ fn debug_shows_no_secret() {
     assert_eq!(format!("{:?}", Entry::from(&[0xab; 16])), "Entry(16 secret bytes)");
     assert_eq!(format!("{:?}", KeyNoise::from(&[0xab; 512])), "KeyNoise(512 secret bytes)");
     assert_eq!(format!("{:?}", TripleNoise::from(&[0xab; 1536])), "TripleNoise(1536 secret bytes)");
+    let opened = polka::open_with_margin(&sound_key(), &sealed_entry(), noise_of(0x21)).unwrap();
+    assert_eq!(format!("{opened:?}"), "(Entry(16 secret bytes), Margin(a secret number))");
     assert!(format!("{:?}", PublicKey::from([0xab; 4101])).starts_with("PublicKey(abab"));
     assert!(format!("{:?}", SeededPublicKey::from([0xab; 2085])).starts_with("SeededPublicKey(abab"));
     assert_eq!(format!("{:?}", SealedBatch::from(vec![0xab; 4135])), format!("SealedBatch({}.., 4135 bytes)", "ab".repeat(16)));
@@ -106,6 +108,7 @@ fn refusals_come_back_as_errors() {
     assert_eq!(polka::compact_secret_key(&ExpandedSecretKey::from(&[0; 6405])).unwrap_err(), Error::WrongMark);
     let sealed = SealedEntry::from([0; 4133]);
     assert_eq!(polka::open(&zeros, &sealed, TripleNoise::from(&[0; 1536])).unwrap_err(), Error::WrongMark);
+    assert_eq!(polka::open_with_margin(&zeros, &sealed, TripleNoise::from(&[0; 1536])).unwrap_err(), Error::WrongMark);
     assert_eq!(polka::open_batch(&zeros, &[0; 4135], TripleNoise::from(&[0; 1536])).unwrap_err(), Error::WrongMark);
     // s and e are 0, and so is b
     let (noise_s, noise_e) = (KeyNoise::from(&[0; 512]), KeyNoise::from(&[0; 512]));
@@ -132,6 +135,44 @@ fn sound_expanded_key() -> ExpandedSecretKey {
 /// The public key of that one, with which sealing and opening go round.
 fn sound_public_key() -> PublicKey {
     PublicKey::try_from(&[b"PDK\x01\x00", &sound_key().as_bytes()[5..4101]].concat()[..]).unwrap()
+}
+
+fn noise_of(fill: u8) -> TripleNoise {
+    TripleNoise::from(&[fill; 1536])
+}
+
+/// Its r, e1 and e2 are 1, −1, 1, −1 and so on.
+fn sealed_entry() -> SealedEntry {
+    polka::seal(&sound_public_key(), noise_of(0x21), &Entry::from(b"lane 4, 00:47.52")).unwrap()
+}
+
+/// Under this key s is 0 and e is 1, so that w is the sum of both r. Entry and refusal are those of `open`; the margin alone varies with
+/// the dummy.
+#[test]
+fn margins_vary_with_the_dummy() {
+    // four bits 1 are 1, four bits 2 are −1 and all others here are 0; beside them stands the largest size of the sum
+    let dummies = [(0x21, 2), (0x00, 1), (0xff, 1), (0x12, 0), (0x11, 2), (0x22, 2), (0x01, 2), (0x02, 1), (0x10, 1), (0x20, 2)];
+    let keys: [&dyn SecretRecord; 2] = [&sound_key(), &sound_expanded_key()];
+    for (fill, expected) in dummies {
+        for key in keys {
+            let (entry, margin) = polka::open_with_margin(key, &sealed_entry(), noise_of(fill)).unwrap();
+            assert_eq!(entry.as_bytes(), b"lane 4, 00:47.52");
+            assert_eq!(margin.value(), expected, "{fill:#04x}");
+        }
+    }
+    let refusal = |edit: fn(&mut [u8; 4133])| {
+        let mut changed = *sealed_entry().as_bytes();
+        edit(&mut changed);
+        let error = polka::open_with_margin(&sound_key(), &changed.into(), noise_of(0x12)).unwrap_err();
+        assert_eq!(polka::open(&sound_key(), &changed.into(), noise_of(0x21)).unwrap_err(), error);
+        error
+    };
+    assert_eq!(refusal(|sealed| sealed[0] = b'p'), Error::WrongMark);
+    // a batch has an opening of its own
+    assert_eq!(refusal(|sealed| sealed[3] = 2), Error::WrongVersion);
+    assert_eq!(refusal(|sealed| sealed[2053 + 34..][..2].fill(0xff)), error(11, "sealed_entry c2 17"));
+    assert_eq!(refusal(|sealed| sealed[5] ^= 4), Error::DecapsulationFailure);
+    assert_eq!(refusal(|sealed| sealed[4101] ^= 1), Error::TagMismatch);
 }
 
 /// No entries and more than 255 are no batch, for sealing and for opening.
@@ -212,9 +253,11 @@ fn bad_words_come_back_as_locations() {
     // the key is named where both are bad
     let sealed = SealedEntry::from([0xff; 4133]);
     assert_eq!(polka::open(&secret_key, &sealed, noise()).unwrap_err(), error(4, "secret_key a 0"));
+    assert_eq!(polka::open_with_margin(&secret_key, &sealed, noise()).unwrap_err(), error(4, "secret_key a 0"));
     let sound = sound_key();
     let sealed = SealedEntry::try_from(&[&record(b"PLG")[..], &[0; 32]].concat()[..]).unwrap();
     assert_eq!(polka::open(&sound, &sealed, noise()).unwrap_err(), error(11, "sealed_entry c1 0"));
+    assert_eq!(polka::open_with_margin(&sound, &sealed, noise()).unwrap_err(), error(11, "sealed_entry c1 0"));
     let mut batch = [&record(b"PLG")[..], &[1, 0], &[0; 32]].concat();
     batch[3] = 2;
     assert_eq!(polka::open_batch(&sound, &batch, noise()).unwrap_err(), error(11, "sealed_entry c1 0"));
@@ -291,6 +334,8 @@ fn either_secret_record_is_taken() {
         assert_eq!(polka::check_secret_key(key), Ok(()));
         let sealed = polka::seal(&sound_public_key(), noise(), &entry).unwrap();
         assert_eq!(polka::open(key, &sealed, noise()).unwrap().as_bytes(), entry.as_bytes());
+        let (opened, margin) = polka::open_with_margin(key, &sealed, noise()).unwrap();
+        assert_eq!((opened.as_bytes(), margin.value()), (entry.as_bytes(), 2));
         let batch = polka::seal_batch(&sound_public_key(), noise(), &[entry]).unwrap();
         assert_eq!(polka::open_batch(key, &batch, noise()).unwrap()[0].as_bytes(), b"lane 4, 00:47.52");
         let encapsulation = polka::encapsulate(&sound_public_key(), &triple()).unwrap();

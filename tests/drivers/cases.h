@@ -108,6 +108,10 @@ static uint32_t call_open(struct buffer *in, struct buffer *out) {
     return polka_open(LENT(in[0]), LENT(in[1]), LENT(in[2]), LENT(out[0]));
 }
 
+static uint32_t call_open_with_margin(struct buffer *in, struct buffer *out) {
+    return polka_open_with_margin(LENT(in[0]), LENT(in[1]), LENT(in[2]), LENT(out[0]), (uint32_t *)(void *)out[1].bytes);
+}
+
 static uint32_t call_seal_batch(struct buffer *in, struct buffer *out) {
     return polka_seal_batch(LENT(in[0]), LENT(in[1]), LENT(in[2]), LENT(out[0]));
 }
@@ -128,28 +132,32 @@ static uint32_t call_shake256(struct buffer *in, struct buffer *out) {
 
 typedef uint32_t run_function(struct buffer *in, struct buffer *out);
 
+/* A number that a call writes, which is lent behind the outputs. Beside a count only that many entries of the output are written. */
+enum value { NO_VALUE, MARGIN, COUNT };
+
 struct call {
     const char *name;
     int inputs, outputs;
-    int value;    /* whether it writes a number, which is lent behind the outputs; of the output then only a part is written */
+    enum value value;
     size_t stack; /* what the header says */
     run_function *run;
 };
 
 static const struct call calls[] = {
-    {"keygen", 3, 2, 0, POLKA_KEYGEN_STACK, call_keygen},
-    {"keygen_from_seed", 3, 2, 0, POLKA_KEYGEN_FROM_SEED_STACK, call_keygen_from_seed},
-    {"check_secret_key", 1, 0, 0, POLKA_CHECK_SECRET_KEY_STACK, call_check_secret_key},
-    {"expand_secret_key", 1, 1, 0, POLKA_EXPAND_SECRET_KEY_STACK, call_expand_secret_key},
-    {"compact_secret_key", 1, 1, 0, POLKA_COMPACT_SECRET_KEY_STACK, call_compact_secret_key},
-    {"encapsulate", 2, 1, 0, POLKA_ENCAPSULATE_STACK, call_encapsulate},
-    {"decapsulate", 3, 1, 0, POLKA_DECAPSULATE_STACK, call_decapsulate},
-    {"seal", 3, 1, 0, POLKA_SEAL_STACK, call_seal},
-    {"open", 3, 1, 0, POLKA_OPEN_STACK, call_open},
-    {"seal_batch", 3, 1, 0, POLKA_SEAL_BATCH_STACK, call_seal_batch},
-    {"open_batch", 3, 1, 1, POLKA_OPEN_BATCH_STACK, call_open_batch},
-    {"shake128", 1, 1, 0, POLKA_SHAKE128_STACK, call_shake128},
-    {"shake256", 1, 1, 0, POLKA_SHAKE256_STACK, call_shake256},
+    {"keygen", 3, 2, NO_VALUE, POLKA_KEYGEN_STACK, call_keygen},
+    {"keygen_from_seed", 3, 2, NO_VALUE, POLKA_KEYGEN_FROM_SEED_STACK, call_keygen_from_seed},
+    {"check_secret_key", 1, 0, NO_VALUE, POLKA_CHECK_SECRET_KEY_STACK, call_check_secret_key},
+    {"expand_secret_key", 1, 1, NO_VALUE, POLKA_EXPAND_SECRET_KEY_STACK, call_expand_secret_key},
+    {"compact_secret_key", 1, 1, NO_VALUE, POLKA_COMPACT_SECRET_KEY_STACK, call_compact_secret_key},
+    {"encapsulate", 2, 1, NO_VALUE, POLKA_ENCAPSULATE_STACK, call_encapsulate},
+    {"decapsulate", 3, 1, NO_VALUE, POLKA_DECAPSULATE_STACK, call_decapsulate},
+    {"seal", 3, 1, NO_VALUE, POLKA_SEAL_STACK, call_seal},
+    {"open", 3, 1, NO_VALUE, POLKA_OPEN_STACK, call_open},
+    {"open_with_margin", 3, 1, MARGIN, POLKA_OPEN_WITH_MARGIN_STACK, call_open_with_margin},
+    {"seal_batch", 3, 1, NO_VALUE, POLKA_SEAL_BATCH_STACK, call_seal_batch},
+    {"open_batch", 3, 1, COUNT, POLKA_OPEN_BATCH_STACK, call_open_batch},
+    {"shake128", 1, 1, NO_VALUE, POLKA_SHAKE128_STACK, call_shake128},
+    {"shake256", 1, 1, NO_VALUE, POLKA_SHAKE256_STACK, call_shake256},
 };
 
 static uint8_t pattern(size_t i) {
@@ -238,14 +246,14 @@ static int run_case(FILE *file, const struct call *call, struct buffer first, ma
     for (int i = 0; i < call->outputs; i++) {
         out[i] = new_output(next_number(file));
     }
-    struct buffer value = new_output(call->value ? sizeof(uint32_t) : 0);
+    struct buffer value = new_output(call->value == NO_VALUE ? 0 : sizeof(uint32_t));
     out[call->outputs] = value;
     uint32_t expected = next_number(file);
     struct buffer location = next_field(file);
     uint32_t answer = make(call->run, in, out);
     int right = is_answer(answer, expected, location);
     free(location.bytes);
-    if (call->value) {
+    if (call->value != NO_VALUE) {
         struct buffer field = next_field(file);
         right = right && is_value(value, field) && (field.length == 4 || expected != POLKA_DONE);
         free(field.bytes);
@@ -253,7 +261,7 @@ static int run_case(FILE *file, const struct call *call, struct buffer first, ma
     free(value.bytes);
     for (int i = 0; i < call->outputs; i++) {
         struct buffer field = next_field(file);
-        int whole = field.length == out[i].length || call->value || expected != POLKA_DONE;
+        int whole = field.length == out[i].length || call->value == COUNT || expected != POLKA_DONE;
         right = right && whole && as_expected(out[i], field);
         free(field.bytes);
         free(out[i].bytes);

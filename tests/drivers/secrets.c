@@ -1,10 +1,11 @@
 /* Makes one call with its secrets marked undefined: memcheck then reports each branch and each address that hangs on them.
  * The answer and the outputs are marked defined again when the call is over. encapsulate_seeded, seal_seeded and seal_batch_seeded_255 are
- * encapsulate, seal and seal_batch_255 under a seeded public key; check_secret_key_expanded, decapsulate_expanded, open_expanded and
- * open_batch_expanded_255 have an expanded secret key; 1 and 255 are counts of entries.
+ * encapsulate, seal and seal_batch_255 under a seeded public key; check_secret_key_expanded, decapsulate_expanded, open_expanded,
+ * open_with_margin_expanded and open_batch_expanded_255 have an expanded secret key; 1 and 255 are counts of entries.
  * usage: secrets keygen|keygen_from_seed|check_secret_key|check_secret_key_expanded|expand_secret_key|compact_secret_key|encapsulate|
- *                encapsulate_seeded|decapsulate|decapsulate_expanded|seal|seal_seeded|open|open_expanded|seal_batch_1|seal_batch_255|
- *                seal_batch_seeded_255|open_batch_1|open_batch_255|open_batch_expanded_255|shake128|shake256   under valgrind */
+ *                encapsulate_seeded|decapsulate|decapsulate_expanded|seal|seal_seeded|open|open_expanded|open_with_margin|
+ *                open_with_margin_expanded|seal_batch_1|seal_batch_255|seal_batch_seeded_255|open_batch_1|open_batch_255|
+ *                open_batch_expanded_255|shake128|shake256   under valgrind */
 #define _GNU_SOURCE
 #include <link.h>
 #include <stdio.h>
@@ -22,6 +23,7 @@ static uint8_t expanded_key[POLKA_EXPANDED_SECRET_KEY_LENGTH], expanded_key_out[
 static uint8_t noise[POLKA_TRIPLE_NOISE_LENGTH], dummy_noise[POLKA_TRIPLE_NOISE_LENGTH];
 static uint8_t triple[POLKA_TRIPLE_LENGTH], dummy[POLKA_TRIPLE_LENGTH], triple_out[POLKA_TRIPLE_LENGTH];
 static uint8_t entry[POLKA_ENTRY_LENGTH], entry_out[POLKA_ENTRY_LENGTH];
+static uint32_t margin, margin_out;
 static uint8_t sealed[POLKA_SEALED_ENTRY_LENGTH], encapsulation[POLKA_ENCAPSULATION_LENGTH];
 static uint8_t entries[POLKA_BATCH_ENTRIES_LENGTH], entries_out[POLKA_BATCH_ENTRIES_LENGTH];
 static uint8_t batch[POLKA_BATCH_LENGTH(POLKA_BATCH_MOST_ENTRIES)];
@@ -65,6 +67,11 @@ static uint32_t seal(const uint8_t *key, size_t key_length) {
 /* With either version of the secret key. */
 static uint32_t open_sealed(const uint8_t *key, size_t key_length) {
     return polka_open(key, key_length, sealed, sizeof sealed, dummy_noise, sizeof dummy_noise, entry_out, sizeof entry_out);
+}
+
+static uint32_t open_with_margin(const uint8_t *key, size_t key_length) {
+    return polka_open_with_margin(key, key_length, sealed, sizeof sealed, dummy_noise, sizeof dummy_noise, entry_out, sizeof entry_out,
+                                  &margin_out);
 }
 
 /* Of the first entries, so many. */
@@ -121,6 +128,26 @@ static int opened(const uint8_t *key, size_t key_length) {
 static int round_trips(const uint8_t *key, size_t key_length) {
     return seal(key, key_length) == POLKA_DONE && encapsulate(key, key_length) == POLKA_DONE && opened(LENT(secret_key)) &&
            opened(LENT(expanded_key));
+}
+
+static void clear_entry_out(void) {
+    memset(entry_out, 0, sizeof entry_out);
+    margin_out = UINT32_MAX;
+}
+
+/* Whether the entry came back, and its margin. */
+static int opened_with_margin(void) {
+    return memcmp(entry, entry_out, sizeof entry) == 0 && margin_out == margin;
+}
+
+/* The same with both versions of the secret key. The margin, which no call before has told, is kept. */
+static int margin_round_trips(void) {
+    clear_entry_out();
+    int opened = open_with_margin(LENT(secret_key)) == POLKA_DONE;
+    margin = margin_out;
+    opened = opened && opened_with_margin() && margin <= POLKA_LARGEST_MARGIN;
+    clear_entry_out();
+    return opened && open_with_margin(LENT(expanded_key)) == POLKA_DONE && opened_with_margin();
 }
 
 /* Whether each conversion gave the other's key. */
@@ -254,6 +281,7 @@ static void all_defined(void) {
     VALGRIND_MAKE_MEM_DEFINED(triple_out, sizeof triple_out);
     VALGRIND_MAKE_MEM_DEFINED(entry, sizeof entry);
     VALGRIND_MAKE_MEM_DEFINED(entry_out, sizeof entry_out);
+    VALGRIND_MAKE_MEM_DEFINED(&margin_out, sizeof margin_out);
     VALGRIND_MAKE_MEM_DEFINED(sealed, sizeof sealed);
     VALGRIND_MAKE_MEM_DEFINED(encapsulation, sizeof encapsulation);
     VALGRIND_MAKE_MEM_DEFINED(entries, sizeof entries);
@@ -288,11 +316,12 @@ int main(int count, char **words) {
     fill(entries, sizeof entries);
     must(round_trips(LENT(public_key)), "round trips");
     must(round_trips(LENT(seeded_public_key)), "round trips under a seeded public key");
+    must(margin_round_trips(), "round trip with margin");
     must(batch_round_trips(LENT(seeded_public_key), 255), "round trip of a batch under a seeded public key");
     size_t batch_count = count_of(words[1]);
     must(batch_count == 0 || batch_round_trips(LENT(public_key), batch_count), "round trip of a batch");
     clear_batch_out();
-    memset(entry_out, 0, sizeof entry_out);
+    clear_entry_out();
     memset(triple_out, 0, sizeof triple_out);
     if (strcmp(words[1], "expand_secret_key") == 0) {
         memset(expanded_key_out, 0, sizeof expanded_key_out);
@@ -316,6 +345,14 @@ int main(int count, char **words) {
         secret_key_s();
         secret_dummy();
         answer = open_sealed(LENT(expanded_key));
+    } else if (strcmp(words[1], "open_with_margin") == 0) {
+        secret_key_s();
+        secret_dummy();
+        answer = open_with_margin(LENT(secret_key));
+    } else if (strcmp(words[1], "open_with_margin_expanded") == 0) {
+        secret_key_s();
+        secret_dummy();
+        answer = open_with_margin(LENT(expanded_key));
     } else if (strcmp(words[1], "seal_batch_1") == 0 || strcmp(words[1], "seal_batch_255") == 0) {
         secret_noise();
         secret_entries();
@@ -379,6 +416,8 @@ int main(int count, char **words) {
     must(converted(), "another key");
     if (strcmp(words[1], "open") == 0 || strcmp(words[1], "open_expanded") == 0) {
         must(memcmp(entry, entry_out, sizeof entry) == 0, "another entry");
+    } else if (strncmp(words[1], "open_with_margin", strlen("open_with_margin")) == 0) {
+        must(opened_with_margin(), "another entry or margin");
     } else if (strncmp(words[1], "open_batch", strlen("open_batch")) == 0) {
         must(batch_opened(batch_count), "other entries");
     }

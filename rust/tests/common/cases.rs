@@ -14,10 +14,18 @@ pub enum Call {
     Decapsulate,
     Seal,
     Open,
+    OpenWithMargin,
     SealBatch,
     OpenBatch,
     Shake128,
     Shake256,
+}
+
+impl Call {
+    /// Whether it writes a value beside 0, to a lent number.
+    pub fn has_value(self) -> bool {
+        matches!(self, Call::OpenWithMargin | Call::OpenBatch)
+    }
 }
 
 #[derive(Clone, Debug)]
@@ -46,6 +54,7 @@ pub struct Calls {
     pub decapsulate: ThreeIn,
     pub seal: ThreeIn,
     pub open: ThreeIn,
+    pub open_with_margin: ThreeInWithValue,
     pub seal_batch: ThreeIn,
     pub open_batch: ThreeInWithValue,
     pub shake128: Hash,
@@ -62,6 +71,7 @@ pub const REFERENCE: Calls = Calls {
     decapsulate: reference::decapsulate,
     seal: reference::seal,
     open: reference::open,
+    open_with_margin: reference::open_with_margin,
     seal_batch: reference::seal_batch,
     open_batch: reference::open_batch,
     shake128: reference::shake128,
@@ -81,7 +91,7 @@ pub struct Outcome {
 pub const NO_VALUE: u32 = 0xa5c3_5a3c;
 
 /// Bytes before and after each output that no call may touch.
-const MARGIN: usize = 64;
+const GUARD: usize = 64;
 
 /// What stands in a buffer before the call.
 fn pattern(length: usize) -> Vec<u8> {
@@ -90,7 +100,7 @@ fn pattern(length: usize) -> Vec<u8> {
 
 /// What an output of this length holds when a call has written these first bytes of it.
 pub fn written_over(length: usize, first: &[u8]) -> Vec<u8> {
-    let mut all = pattern(length + 2 * MARGIN)[MARGIN..MARGIN + length].to_vec();
+    let mut all = pattern(length + 2 * GUARD)[GUARD..GUARD + length].to_vec();
     all[..first.len()].copy_from_slice(first);
     all
 }
@@ -98,13 +108,13 @@ pub fn written_over(length: usize, first: &[u8]) -> Vec<u8> {
 /// Runs a case; fails where a byte beside an output changes, a byte of an output or the value under a code other than 0, or a byte behind
 /// the entries of a batch.
 pub fn run(calls: &Calls, case: &Case) -> Outcome {
-    let before: Vec<Vec<u8>> = case.outputs.iter().map(|length| pattern(length + 2 * MARGIN)).collect();
+    let before: Vec<Vec<u8>> = case.outputs.iter().map(|length| pattern(length + 2 * GUARD)).collect();
     let mut after = before.clone();
     let mut value = NO_VALUE;
     let code = {
         let input = |i: usize| &case.inputs[i][..];
         let mut lent: Vec<&mut [u8]> =
-            after.iter_mut().zip(&case.outputs).map(|(buffer, length)| &mut buffer[MARGIN..MARGIN + length]).collect();
+            after.iter_mut().zip(&case.outputs).map(|(buffer, length)| &mut buffer[GUARD..GUARD + length]).collect();
         let keys = |call: ThreeInTwoOut, lent: &mut [&mut [u8]]| {
             let (public_key, secret_key) = lent.split_at_mut(1);
             call(input(0), input(1), input(2), public_key[0], secret_key[0])
@@ -123,6 +133,7 @@ pub fn run(calls: &Calls, case: &Case) -> Outcome {
             Call::Decapsulate => (calls.decapsulate)(input(0), input(1), input(2), lent[0]),
             Call::Seal => (calls.seal)(input(0), input(1), input(2), lent[0]),
             Call::Open => (calls.open)(input(0), input(1), input(2), lent[0]),
+            Call::OpenWithMargin => (calls.open_with_margin)(input(0), input(1), input(2), lent[0], &mut value),
             Call::SealBatch => (calls.seal_batch)(input(0), input(1), input(2), lent[0]),
             Call::OpenBatch => (calls.open_batch)(input(0), input(1), input(2), lent[0], &mut value),
             Call::Shake128 => hash(calls.shake128, &mut lent),
@@ -130,17 +141,17 @@ pub fn run(calls: &Calls, case: &Case) -> Outcome {
         }
     };
     for ((before, after), length) in before.iter().zip(&after).zip(&case.outputs) {
-        let beside = |buffer: &[u8]| [&buffer[..MARGIN], &buffer[MARGIN + length..]].concat();
+        let beside = |buffer: &[u8]| [&buffer[..GUARD], &buffer[GUARD + length..]].concat();
         assert!(beside(before) == beside(after), "{}: written outside the buffer", case.name);
         assert!(code == 0 || before == after, "{}: refused under {}, and an output has changed", case.name, answers::shown(code));
     }
-    let has_value = code == 0 && case.call == Call::OpenBatch;
+    let has_value = code == 0 && case.call.has_value();
     assert!(has_value || value == NO_VALUE, "{}: {}, and the value has changed", case.name, answers::shown(code));
-    if has_value {
-        let end = MARGIN + 16 * value as usize;
+    if has_value && case.call == Call::OpenBatch {
+        let end = GUARD + 16 * value as usize;
         assert!(before[0][end..] == after[0][end..], "{}: written behind {value} entries", case.name);
     }
-    let outputs = after.iter().zip(&case.outputs).map(|(buffer, length)| buffer[MARGIN..MARGIN + length].to_vec()).collect();
+    let outputs = after.iter().zip(&case.outputs).map(|(buffer, length)| buffer[GUARD..GUARD + length].to_vec()).collect();
     Outcome { code, value, outputs }
 }
 

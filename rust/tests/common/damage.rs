@@ -21,6 +21,8 @@ pub struct Sound {
     pub seal_seeded: Case,
     pub open: Case,
     pub open_expanded: Case,
+    pub open_with_margin: Case,
+    pub open_with_margin_expanded: Case,
     pub seal_batch: Case,
     pub seal_batch_seeded: Case,
     pub open_batch: Case,
@@ -80,6 +82,7 @@ impl Sound {
         let seal_seeded = seeded(&seal);
         let sealed = written(&seal).unwrap().remove(0);
         let open = case("open", Call::Open, vec![secret_key.clone(), sealed, random.bytes(1536)], &[16]);
+        let open_with_margin = case("open_with_margin", Call::OpenWithMargin, open.inputs.clone(), &[16]);
         let inputs = vec![public_key, random.bytes(1536), random.bytes(16 * entries)];
         let seal_batch = case(&format!("seal_batch of {entries}"), Call::SealBatch, inputs, &[batch_length(entries)]);
         let seal_batch_seeded = seeded(&seal_batch);
@@ -101,6 +104,8 @@ impl Sound {
             seal_seeded,
             open_expanded: expanded(&open),
             open,
+            open_with_margin_expanded: expanded(&open_with_margin),
+            open_with_margin,
             seal_batch,
             seal_batch_seeded,
             open_batch_expanded: expanded(&open_batch),
@@ -108,7 +113,7 @@ impl Sound {
         }
     }
 
-    pub fn all(&self) -> [&Case; 18] {
+    pub fn all(&self) -> [&Case; 20] {
         [
             &self.keygen,
             &self.keygen_from_seed,
@@ -124,6 +129,8 @@ impl Sound {
             &self.seal_seeded,
             &self.open,
             &self.open_expanded,
+            &self.open_with_margin,
+            &self.open_with_margin_expanded,
             &self.seal_batch,
             &self.seal_batch_seeded,
             &self.open_batch,
@@ -427,7 +434,7 @@ pub fn words_of(case: &Case) -> Vec<Words> {
         Call::Encapsulate | Call::Seal | Call::SealBatch => pair(0, 4, "public_key", ["a", "b"], 5),
         Call::CheckSecretKey | Call::ExpandSecretKey | Call::CompactSecretKey => secret_key,
         Call::Decapsulate => [secret_key, pair(1, 11, "encapsulation", ["c1", "c2"], 0)].concat(),
-        Call::Open | Call::OpenBatch => [secret_key, pair(1, 11, "sealed_entry", ["c1", "c2"], 5)].concat(),
+        Call::Open | Call::OpenWithMargin | Call::OpenBatch => [secret_key, pair(1, 11, "sealed_entry", ["c1", "c2"], 5)].concat(),
         Call::Keygen | Call::KeygenFromSeed | Call::Shake128 | Call::Shake256 => vec![],
     }
 }
@@ -778,7 +785,7 @@ pub fn in_order(case: &Case) -> Vec<Damage> {
             let first = vec![no_key(), cut(1, 4095), cut(2, 767), output()];
             [first, key(), vec![c2(), code_3(2, 0), moved(1, 0, 3, 9)]].into_iter().flatten().collect()
         }
-        Call::Open => {
+        Call::Open | Call::OpenWithMargin => {
             let first = vec![no_key(), more(1, 1, 1), cut(2, 1535), output()];
             let body = fault("body", 10, Box::new(|case| case.inputs[1][ENTRY_BODY_AT] ^= 1));
             [first, key(), vec![mark(1), version(1), c2(), moved(1, 5, 3, 9), body]].into_iter().flatten().collect()
@@ -795,7 +802,7 @@ pub fn in_order(case: &Case) -> Vec<Damage> {
     }
 }
 
-/// Dummies and noise at their limits; none changes an answer.
+/// Dummies and noise at their limits; none changes an answer, but the margin does vary with the dummy.
 pub fn dummies(input: usize, coded: bool) -> Vec<Damage> {
     // 0x55 is every code 1, 0xaa every code 2; as noise 0x11 is every coefficient 1, 0x33 and 0x44 every −1
     let fills: &[u8] = if coded { &[0x00, 0x55, 0xaa] } else { &[0x00, 0x11, 0x33, 0x44, 0xcc, 0xff, 0x5a] };
@@ -884,7 +891,7 @@ fn is_expanded(case: &Case) -> bool {
 
 /// Whether input 0 is a secret key of either version.
 fn takes_either(case: &Case) -> bool {
-    matches!(case.call, Call::CheckSecretKey | Call::Decapsulate | Call::Open | Call::OpenBatch)
+    matches!(case.call, Call::CheckSecretKey | Call::Decapsulate | Call::Open | Call::OpenWithMargin | Call::OpenBatch)
 }
 
 /// All kinds that fit a sound case.
@@ -897,7 +904,13 @@ pub fn of(case: &Case, random: &mut Random) -> Vec<Damage> {
             all.extend(seeds(0, None));
             all.extend(seeded_no_units());
         }
-        Call::CheckSecretKey | Call::ExpandSecretKey | Call::CompactSecretKey | Call::Decapsulate | Call::Open | Call::OpenBatch => {
+        Call::CheckSecretKey
+        | Call::ExpandSecretKey
+        | Call::CompactSecretKey
+        | Call::Decapsulate
+        | Call::Open
+        | Call::OpenWithMargin
+        | Call::OpenBatch => {
             all.extend(headers(case, 0));
             all.extend(key_versions(case));
             all.extend(codes(0, S_AT, 1024));
@@ -931,7 +944,7 @@ pub fn of(case: &Case, random: &mut Random) -> Vec<Damage> {
             all.extend(dummies(2, true));
         }
         Call::Seal => all.extend(dummies(1, false)),
-        Call::Open => {
+        Call::Open | Call::OpenWithMargin => {
             all.extend(headers(case, 1));
             all.extend(moved_capsules(5));
             all.extend(body_and_tag());

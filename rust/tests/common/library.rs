@@ -18,6 +18,7 @@ pub const LIBRARY: Calls = Calls {
     decapsulate: ffi::decapsulate,
     seal: ffi::seal,
     open: ffi::open,
+    open_with_margin: ffi::open_with_margin,
     seal_batch: ffi::seal_batch,
     open_batch: ffi::open_batch,
     shake128: ffi::shake128,

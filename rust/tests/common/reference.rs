@@ -138,6 +138,11 @@ pub fn remainder_by_5(m: i32) -> i32 {
     (m + 2).rem_euclid(5) - 2
 }
 
+/// The integer nearest to m ÷ 5, which is never half way between two: m ÷ 5 + 1 ÷ 2, rounded down.
+pub fn quotient_by_5(m: i32) -> i32 {
+    (2 * m + 5).div_euclid(10)
+}
+
 fn coefficient(value: i32) -> u32 {
     value.rem_euclid(Q as i32) as u32
 }
@@ -472,8 +477,8 @@ fn capsule(a: &[u32], b: &[u32], [r, e1, e2]: &Triple) -> (Element, Element) {
     (sum(&product(a, r), e1), sum(&product(b, r), e2))
 }
 
-/// The five steps, with document 01's numbers beside them.
-fn opened(key: &SecretKey, c1: &[u32], c2: &[u32], dummy: &Triple) -> Result<Triple, u32> {
+/// The five steps, with document 01's numbers beside them: the triple, and the margin, the largest size of w where m = E2 + 5 × w.
+fn opened(key: &SecretKey, c1: &[u32], c2: &[u32], dummy: &Triple) -> Result<(Triple, u32), u32> {
     // 1
     let (d1, d2) = capsule(&key.a, &key.b, dummy);
     let (first, second) = (sum(c1, &d1), sum(c2, &d2));
@@ -481,6 +486,7 @@ fn opened(key: &SecretKey, c1: &[u32], c2: &[u32], dummy: &Triple) -> Result<Tri
     let m = difference(&second, &multiple(5, &product(&first, &key.s)));
     // 3
     let e2: Element = m.iter().map(|&c| coefficient(remainder_by_5(centred(c)))).collect();
+    let margin = m.iter().map(|&c| quotient_by_5(centred(c)).unsigned_abs()).fold(0, u32::max);
     // 4
     let r = product(&difference(&second, &e2), &key.inverse_of_b);
     let e1 = difference(&first, &product(&key.a, &r));
@@ -490,7 +496,7 @@ fn opened(key: &SecretKey, c1: &[u32], c2: &[u32], dummy: &Triple) -> Result<Tri
     // 5
     let answer = [difference(&r, &dummy[0]), difference(&e1, &dummy[1]), difference(&e2, &dummy[2])];
     if answer.iter().all(|part| is_short(part)) {
-        Ok(answer)
+        Ok((answer, margin))
     } else {
         Err(9)
     }
@@ -619,7 +625,7 @@ pub fn decapsulate(secret_key: &[u8], encapsulation: &[u8], dummy: &[u8], triple
         let key = judge_secret_key(&[1, 2], secret_key)?;
         let capsule = elements(11, "encapsulation", &["c1", "c2"], encapsulation)?;
         let dummy = three(coded(dummy)?);
-        let answer = opened(&key, &capsule[0], &capsule[1], &dummy)?;
+        let (answer, _) = opened(&key, &capsule[0], &capsule[1], &dummy)?;
         triple.copy_from_slice(&triple_bytes(&answer));
         Ok(())
     };
@@ -645,23 +651,29 @@ pub fn seal(public_key: &[u8], noise: &[u8], entry: &[u8], sealed: &mut [u8]) ->
     code(work())
 }
 
+/// A sealed entry opened, and its margin.
+fn opened_entry(secret_key: &[u8], sealed: &[u8], dummy_noise: &[u8], entry: &mut [u8]) -> Result<u32, u32> {
+    judge_start(secret_key)?;
+    judge_lengths(&[(sealed.len(), 4133), (dummy_noise.len(), 1536), (entry.len(), 16)])?;
+    let key = judge_secret_key(&[1, 2], secret_key)?;
+    judge_header(b"PLG", &[1], sealed)?;
+    let capsule = elements(11, "sealed_entry", &["c1", "c2"], &sealed[5..4101])?;
+    let (triple, margin) = opened(&key, &capsule[0], &capsule[1], &triple_from_noise(dummy_noise))?;
+    let (pad, k1, k2) = derived(&triple, 16);
+    let body = &sealed[4101..4117];
+    if sealed[4117..] != tag(k1, k2, body) {
+        return Err(10);
+    }
+    entry.copy_from_slice(&xor(body, &pad));
+    Ok(margin)
+}
+
 pub fn open(secret_key: &[u8], sealed: &[u8], dummy_noise: &[u8], entry: &mut [u8]) -> u32 {
-    let mut work = || {
-        judge_start(secret_key)?;
-        judge_lengths(&[(sealed.len(), 4133), (dummy_noise.len(), 1536), (entry.len(), 16)])?;
-        let key = judge_secret_key(&[1, 2], secret_key)?;
-        judge_header(b"PLG", &[1], sealed)?;
-        let capsule = elements(11, "sealed_entry", &["c1", "c2"], &sealed[5..4101])?;
-        let triple = opened(&key, &capsule[0], &capsule[1], &triple_from_noise(dummy_noise))?;
-        let (pad, k1, k2) = derived(&triple, 16);
-        let body = &sealed[4101..4117];
-        if sealed[4117..] != tag(k1, k2, body) {
-            return Err(10);
-        }
-        entry.copy_from_slice(&xor(body, &pad));
-        Ok(())
-    };
-    code(work())
+    code(opened_entry(secret_key, sealed, dummy_noise, entry).map(|_| ()))
+}
+
+pub fn open_with_margin(secret_key: &[u8], sealed: &[u8], dummy_noise: &[u8], entry: &mut [u8], margin: &mut u32) -> u32 {
+    code(opened_entry(secret_key, sealed, dummy_noise, entry).map(|largest| *margin = largest))
 }
 
 pub fn seal_batch(public_key: &[u8], noise: &[u8], entries: &[u8], batch: &mut [u8]) -> u32 {
@@ -702,7 +714,7 @@ pub fn open_batch(secret_key: &[u8], batch: &[u8], dummy_noise: &[u8], entries: 
         judge_count(m)?;
         judge_lengths(&[(batch.len(), 4119 + 16 * m)])?;
         let capsule = elements(11, "sealed_entry", &["c1", "c2"], &batch[5..4101])?;
-        let triple = opened(&key, &capsule[0], &capsule[1], &triple_from_noise(dummy_noise))?;
+        let (triple, _) = opened(&key, &capsule[0], &capsule[1], &triple_from_noise(dummy_noise))?;
         let (pad, k1, k2) = derived(&triple, 16 * m);
         let (body, tag) = batch[4103..].split_at(16 * m);
         if tag != batch_tag(k1, k2, body) {

@@ -70,7 +70,7 @@ pub fn number(field: &[u8]) -> u32 {
 /// Every case of one file. The last inputs are the lengths of the outputs.
 fn compare(calls: &Calls, what: &'static str, file: &str, call: Call, inputs: usize, outputs: usize) {
     let mut count = Count::new(what);
-    let values = usize::from(call == Call::OpenBatch);
+    let values = usize::from(call.has_value());
     for vector in read(file, inputs + outputs, values + outputs) {
         let lengths = vector.inputs[inputs..].iter().map(|field| number(field) as usize).collect();
         let case = Case { name: vector.name, call, inputs: vector.inputs[..inputs].to_vec(), outputs: lengths };
@@ -128,6 +128,10 @@ pub fn compare_open(calls: &Calls) {
 /// Entries that were sealed before the noise was read as it is now: they open still.
 pub fn compare_open_sealed_before(calls: &Calls) {
     compare(calls, "vectors, entries sealed before", "open_sealed_before", Call::Open, 3, 1);
+}
+
+pub fn compare_open_with_margin(calls: &Calls) {
+    compare(calls, "vectors, open_with_margin", "open_with_margin", Call::OpenWithMargin, 3, 1);
 }
 
 pub fn compare_seal_batch(calls: &Calls) {

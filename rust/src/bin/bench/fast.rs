@@ -209,23 +209,29 @@ fn within(bound: u16, a: &Element) -> bool {
     a.iter().fold(true, |all, &x| all & ((x <= bound) | (Q - x <= bound)))
 }
 
-pub fn remainders(m: &Element) -> Element {
-    m.map(|c| {
-        let centred = if c <= 29_696 { i32::from(c) } else { i32::from(c) - i32::from(Q) };
-        let t = centred % 5;
-        let t = if t > 2 {
-            t - 5
+type Quotients = [i16; 1024];
+
+/// m = E2 + 5 w: the remainders E2, between −2 and 2, and the quotients w, which are written. Signed, a centred value fits in 16 bits.
+pub fn divide_by_5(m: &Element, w: &mut Quotients) -> Element {
+    let mut e2 = [0; 1024];
+    for k in 0..1024 {
+        let centred = if m[k] <= 29_696 { m[k] as i16 } else { m[k].wrapping_sub(Q) as i16 };
+        let (t, v) = (centred % 5, centred / 5);
+        let (t, v) = if t > 2 {
+            (t - 5, v + 1)
         } else if t < -2 {
-            t + 5
+            (t + 5, v - 1)
         } else {
-            t
+            (t, v)
         };
-        if t < 0 {
-            (t + i32::from(Q)) as u16
-        } else {
-            t as u16
-        }
-    })
+        e2[k] = if t < 0 { (t as u16).wrapping_add(Q) } else { t as u16 };
+        w[k] = v;
+    }
+    e2
+}
+
+fn largest_size(w: &Quotients) -> u16 {
+    w.iter().fold(0, |largest, v| v.unsigned_abs().max(largest))
 }
 
 // ---- SHAKE128 and SHAKE256
@@ -627,13 +633,22 @@ fn capsule(a: &Element, b: &Element, triple: &[Element; 3], w: &Factors, v: &Fac
 }
 
 /// Four more transforms forward and three back, after the key check's three and one, or four and one where the inverse of b is stored: the
-/// sums of step 1 are kept as spectra.
-fn opened(key: &SecretKey, c1: &Element, c2: &Element, dummy: &[Element; 3], w: &Factors, v: &Factors) -> Option<[Element; 3]> {
+/// sums of step 1 are kept as spectra. The quotients are written to a lent place: where they are returned, an opening takes up to an eighth
+/// more.
+fn opened(
+    key: &SecretKey,
+    c1: &Element,
+    c2: &Element,
+    dummy: &[Element; 3],
+    quotients: &mut Quotients,
+    w: &Factors,
+    v: &Factors,
+) -> Option<[Element; 3]> {
     let dummy_r = forward(&dummy[0], w);
     let first = sum(&pointwise(&key.a, &dummy_r), &forward(&sum(c1, &dummy[1]), w));
     let second = sum(&pointwise(&key.b, &dummy_r), &forward(&sum(c2, &dummy[2]), w));
     let m = backward(&difference(&second, &multiple(to_montgomery(5), &pointwise(&first, &key.s))), v);
-    let e2 = remainders(&m);
+    let e2 = divide_by_5(&m, quotients);
     let inverse = key.inverse.unwrap_or_else(|| reciprocals(&key.b));
     let spectrum_r = pointwise(&difference(&second, &forward(&e2, w)), &inverse);
     let r = backward(&spectrum_r, v);
@@ -753,7 +768,7 @@ pub fn decapsulate(secret_key: &[u8], encapsulation: &[u8], dummy: &[u8], triple
         return 5;
     }
     let dummy = [decode(&dummy[..256]), decode(&dummy[256..512]), decode(&dummy[512..])];
-    match opened(&key, &c1, &c2, &dummy, &w, &v) {
+    match opened(&key, &c1, &c2, &dummy, &mut [0; 1024], &w, &v) {
         Some(answer) => {
             triple.copy_from_slice(&encode_triple(&answer));
             0
@@ -786,21 +801,27 @@ pub fn seal(public_key: &[u8], noise: &[u8], entry: &[u8], sealed: &mut [u8]) ->
 
 /// The coded triple of a sealed entry or a batch, whose front, before c1, is judged behind the key. Not inlined it takes a twentieth more.
 #[inline(always)]
-fn opened_record(secret_key: &[u8], front: Result<(), u32>, record: &[u8], dummy_noise: &[u8]) -> Result<[u8; 768], u32> {
+fn opened_record(
+    secret_key: &[u8],
+    front: Result<(), u32>,
+    record: &[u8],
+    dummy_noise: &[u8],
+    quotients: &mut Quotients,
+) -> Result<[u8; 768], u32> {
     let (w, v) = (forward_factors(), backward_factors());
     let key = judge_secret_key(secret_key, &[1, 2], &w, &v)?;
     front?;
     let (c1, c2) = (words(&record[5..2053]), words(&record[2053..4101]));
     judge_words(SEALED_ENTRY, &[(C1, &c1), (C2, &c2)])?;
-    let triple = opened(&key, &c1, &c2, &triple_from_noise(dummy_noise), &w, &v).ok_or(9u32)?;
+    let triple = opened(&key, &c1, &c2, &triple_from_noise(dummy_noise), quotients, &w, &v).ok_or(9u32)?;
     Ok(encode_triple(&triple))
 }
 
-pub fn open(secret_key: &[u8], sealed: &[u8], dummy_noise: &[u8], entry: &mut [u8]) -> u32 {
+fn open_entry(secret_key: &[u8], sealed: &[u8], dummy_noise: &[u8], entry: &mut [u8], quotients: &mut Quotients) -> u32 {
     if !has_header(secret_key) || sealed.len() != 4133 || dummy_noise.len() != 1536 || entry.len() != 16 {
         return 1;
     }
-    let triple = match opened_record(secret_key, judge_header(sealed, b"PLG", 1), sealed, dummy_noise) {
+    let triple = match opened_record(secret_key, judge_header(sealed, b"PLG", 1), sealed, dummy_noise, quotients) {
         Ok(triple) => triple,
         Err(code) => return code,
     };
@@ -812,6 +833,19 @@ pub fn open(secret_key: &[u8], sealed: &[u8], dummy_noise: &[u8], entry: &mut [u
     }
     entry.copy_from_slice(&xor(body, keystream));
     0
+}
+
+pub fn open(secret_key: &[u8], sealed: &[u8], dummy_noise: &[u8], entry: &mut [u8]) -> u32 {
+    open_entry(secret_key, sealed, dummy_noise, entry, &mut [0; 1024])
+}
+
+pub fn open_with_margin(secret_key: &[u8], sealed: &[u8], dummy_noise: &[u8], entry: &mut [u8], margin: &mut u32) -> u32 {
+    let mut quotients = [0; 1024];
+    let code = open_entry(secret_key, sealed, dummy_noise, entry, &mut quotients);
+    if code == 0 {
+        *margin = largest_size(&quotients).into();
+    }
+    code
 }
 
 pub fn seal_batch(public_key: &[u8], noise: &[u8], entries: &[u8], batch: &mut [u8]) -> u32 {
@@ -860,7 +894,7 @@ pub fn open_batch(secret_key: &[u8], batch: &[u8], dummy_noise: &[u8], entries: 
         return 1;
     }
     let m = usize::from(u16::from_le_bytes([batch[4101], batch[4102]]));
-    let triple = match opened_record(secret_key, judge_batch_front(batch, m), batch, dummy_noise) {
+    let triple = match opened_record(secret_key, judge_batch_front(batch, m), batch, dummy_noise, &mut [0; 1024]) {
         Ok(triple) => triple,
         Err(code) => return code,
     };

@@ -238,6 +238,13 @@ impl Records {
             assert_eq!(open(secret_key, &self.sealed, &self.dummy_noise, &mut entry), 0);
             assert!(entry == self.entry, "the entries differ");
         }
+        let margins = [ffi::open_with_margin, fast::open_with_margin].map(|open_with_margin: ThreeInWithValue| {
+            let (mut entry, mut margin) = (vec![0; 16], 0);
+            assert_eq!(open_with_margin(secret_key, &self.sealed, &self.dummy_noise, &mut entry, &mut margin), 0);
+            assert!(entry == self.entry, "the entries differ");
+            margin
+        });
+        assert!(margins[0] == margins[1], "the margins differ");
         for (count, expected) in &self.batches {
             for open_batch in [ffi::open_batch, fast::open_batch] {
                 let (mut entries, mut opened) = (vec![0; 4080], 0);
@@ -256,7 +263,7 @@ impl Records {
 
 type Keygen = fn(&[u8], &[u8], &[u8], &mut [u8], &mut [u8]) -> u32;
 type ThreeIn = fn(&[u8], &[u8], &[u8], &mut [u8]) -> u32;
-type OpenBatch = fn(&[u8], &[u8], &[u8], &mut [u8], &mut u32) -> u32;
+type ThreeInWithValue = fn(&[u8], &[u8], &[u8], &mut [u8], &mut u32) -> u32;
 type OneIn = fn(&[u8], &mut [u8]) -> u32;
 type TwoIn = fn(&[u8], &[u8], &mut [u8]) -> u32;
 
@@ -274,6 +281,14 @@ fn three_in<'a>(call: ThreeIn, inputs: [&'a [u8]; 3], output: usize) -> impl FnM
     move || assert_eq!(call(black_box(inputs[0]), black_box(inputs[1]), black_box(inputs[2]), black_box(&mut out)), 0)
 }
 
+fn three_in_with_value<'a>(call: ThreeInWithValue, inputs: [&'a [u8]; 3], output: usize) -> impl FnMut() + 'a {
+    let (mut out, mut value) = (vec![0; output], 0);
+    move || {
+        let done = call(black_box(inputs[0]), black_box(inputs[1]), black_box(inputs[2]), black_box(&mut out), black_box(&mut value));
+        assert_eq!(done, 0);
+    }
+}
+
 fn batch_length(count: usize) -> usize {
     4119 + 16 * count
 }
@@ -282,12 +297,8 @@ fn seal_batch_of<'a>(call: ThreeIn, key: &'a [u8], count: usize, records: &'a Re
     three_in(call, [key, &records.noise, &records.entries[..16 * count]], batch_length(count))
 }
 
-fn open_batch_of<'a>(call: OpenBatch, batch: &'a [u8], records: &'a Records) -> impl FnMut() + 'a {
-    let (mut entries, mut count) = (vec![0; 4080], 0);
-    move || {
-        let (key, dummy) = (black_box(&records.secret_key), black_box(&records.dummy_noise));
-        assert_eq!(call(key, black_box(batch), dummy, black_box(&mut entries), &mut count), 0);
-    }
+fn open_batch_of<'a>(call: ThreeInWithValue, batch: &'a [u8], records: &'a Records) -> impl FnMut() + 'a {
+    three_in_with_value(call, [&records.secret_key, batch, &records.dummy_noise], 4080)
 }
 
 fn one_in<'a>(call: OneIn, input: &'a [u8], output: usize) -> impl FnMut() + 'a {
@@ -340,6 +351,10 @@ fn beside_rust(records: &Records) {
     for (what, key) in [("open", secret_key), ("open, expanded key", expanded_key)] {
         let open = |call| three_in(call, [key, sealed, dummy_noise], 16);
         line(what, in_turn(ROUNDS, CALLS, open(ffi::open), open(fast::open)));
+    }
+    for (what, key) in [("open with margin", secret_key), ("open with margin, expanded key", expanded_key)] {
+        let open = |call| three_in_with_value(call, [key, sealed, dummy_noise], 16);
+        line(what, in_turn(ROUNDS, CALLS, open(ffi::open_with_margin), open(fast::open_with_margin)));
     }
     for (count, _) in &records.batches {
         let seal_batch = |call| seal_batch_of(call, public_key, *count, records);
@@ -409,8 +424,9 @@ fn parts(records: &Records) {
     alone("1,024 reciprocals (open 1 or 0)", &mut || {
         black_box(fast::reciprocals(black_box(&a)));
     });
-    alone("remainders by 5 (open 1)", &mut || {
-        black_box(fast::remainders(black_box(&a)));
+    let mut quotients = [0; 1024];
+    alone("remainders and quotients by 5 (open 1)", &mut || {
+        black_box(fast::divide_by_5(black_box(&a), black_box(&mut quotients)));
     });
     alone("polynomial from noise (seal 3, open 3)", &mut || {
         black_box(fast::from_noise(black_box(&records.noise[..512])));
