@@ -1,15 +1,15 @@
 -- The machine's signed values: each step of the code goes through the bits of its result, `toZ w32 (ofZ w32 z)`, which is z where z fits.
 use mathlib.Core.Path.{_≡_, refl, sym, ap, _∙_}
 use mathlib.Core.Bool.{true, false, true≢false}
-use Prim.Native.Nat.{ℕ, zero, suc, _+_, _-_, _/_, _%_, _≤_, _<_}
-use native.Mathlib.Nat.{div-le-self}
+use Prim.Native.Nat.{ℕ, zero, suc, _+_, _-_, _/_, _%_, _^_, _≤_, _<_}
+use native.Mathlib.Nat.{div-le-self, lt-of-le-of-lt}
 use native.Mathlib.Omega.{arith}
 use lib.Dec.{T, lit<}
 use lib.IntN.{ℤ, pos, negsuc, negℤ, natAbs, _-ℤ_, _+ℤ_, negℤ-negℤ}
 use lib.Signed.{mag, ltZ, remZ, quotZ, mag-rem, nonNeg}
 use borrow.Author.Tests.{ltb-true, ltb-false}
-use mir.Syntax.{w32, w16}
-use mir.Val.{SFits, Fits, toZ, ofZ}
+use mir.Syntax.{Width, w32, w16}
+use mir.Val.{hbits, SFits, Fits, toZ, ofZ}
 use mir.ValLaws.{toZ-pos, toZ-ofZ, sfits-le}
 use Rattle.ring.specs.Ring.{q}
 use Rattle.ring.specs.Centred.{centred, residue, aroundZero, centredRemainder, centredQuotient, remainderOf, quotientOf}
@@ -21,6 +21,19 @@ use Rattle.ring.proofs.QuotientLaws.{quotient-bound}
 mag-neg : (k : ℕ) → mag (negℤ (pos k)) ≤ k
 mag-neg zero = omega arith
 mag-neg (suc k) = omega arith
+
+-- - k for k at most a + 1
+mag-down : (a k : ℕ) → k ≤ suc a → mag (negℤ (pos k)) ≤ a
+mag-down a zero h = omega arith
+mag-down a (suc k) h = omega arith
+
+mag-size : (z : ℤ) → mag z ≤ natAbs z
+mag-size (pos a) = omega arith
+mag-size (negsuc a) = omega arith
+
+-- what is small enough in size fits
+sized-fits : (w : Width) (z : ℤ) → natAbs z < 2 ^ hbits w → SFits w z
+sized-fits w z h = record { sfits = lt-of-le-of-lt (mag-size z) h }
 
 -- ---- centred values, from the residue y of the word
 
@@ -57,11 +70,7 @@ module _ (m : ℤ) (f : SFits w32 m) (d : ℕ) (some : 0 < d) where
 
   mag-quot : (z : ℤ) → mag (quotZ z (pos d)) ≤ mag z
   mag-quot (pos a) = div-le-self a d
-  mag-quot (negsuc a) = down (suc a / d) (div-le-self (suc a) d)
-    where
-      down : (k : ℕ) → k ≤ suc a → mag (negℤ (pos k)) ≤ a
-      down zero h = omega arith
-      down (suc k) h = omega arith
+  mag-quot (negsuc a) = mag-down a (suc a / d) (div-le-self (suc a) d)
 
   pub quotient-fits : (0 < d) × SFits w32 (quotZ m′ (pos d))
   quotient-fits = (some, rw same (sfits-le (mag-quot m) f))
@@ -83,10 +92,6 @@ t5 m = remZ m (pos 5)
 
 abbrev v5 : ℤ → ℤ
 v5 m = quotZ m (pos 5)
-
-wide : (z : ℤ) → natAbs z ≤ 2 → SFits w32 z
-wide (pos a) h = record { sfits = omega arith }
-wide (negsuc a) h = record { sfits = omega arith }
 
 -- what the tests say of - r
 never-above : (r : ℕ) → ltZ (pos 2) (negℤ (pos r)) ≡ true → ⊥
@@ -143,11 +148,7 @@ keep (negsuc a) h g =
 quotient-mag : (m : ℤ) → mag (centredQuotient m) ≤ mag m
 unfolding centredQuotient
 quotient-mag (pos a) = omega arith
-quotient-mag (negsuc a) = down ((suc a + 2) / 5) (omega arith)
-  where
-    down : (k : ℕ) → k ≤ suc a → mag (negℤ (pos k)) ≤ a
-    down zero h = omega arith
-    down (suc k) h = omega arith
+quotient-mag (negsuc a) = mag-down a ((suc a + 2) / 5) (omega arith)
 
 -- the same of the code's own t and v
 module _ (m : ℤ) (f : SFits w32 m) where
@@ -165,7 +166,7 @@ module _ (m : ℤ) (f : SFits w32 m) where
 
   -- a remainder and a quotient that were worked out fit, and are read back
   remainder-fits : (z : ℤ) → z ≡ centredRemainder m → SFits w32 z
-  remainder-fits z e = rw e (wide (centredRemainder m) (remainder-small m))
+  remainder-fits z e = rw e (sized-fits w32 (centredRemainder m) (omega (arith, remainder-small m)))
 
   quotient-wide : (z : ℤ) → z ≡ centredQuotient m → SFits w32 z
   quotient-wide z e = rw e (sfits-le (quotient-mag m) f)
@@ -250,18 +251,10 @@ module _ (m : ℤ) (f : SFits w32 m) where
 
 -- ---- one after the other: each result goes to the next call through its bits
 
-centred-fits : (z : ℤ) → natAbs z ≤ 29696 → SFits w32 z
-centred-fits (pos a) h = record { sfits = omega arith }
-centred-fits (negsuc a) h = record { sfits = omega arith }
-
-narrow : (z : ℤ) → natAbs z ≤ 5939 → SFits w16 z
-narrow (pos a) h = record { sfits = omega arith }
-narrow (negsuc a) h = record { sfits = omega arith }
-
 -- m is a centred value, e and v are its remainder and its quotient
 module _ (c : ℕ) {m e v : ℤ} (em : m ≡ centred c) (divided : (e ≡ centredRemainder (toZ w32 (ofZ w32 m))) × (v ≡ centredQuotient (toZ w32 (ofZ w32 m)))) where
   read-centred : toZ w32 (ofZ w32 m) ≡ centred c
-  read-centred = toZ-ofZ w32 m (rw em (centred-fits (centred c) (centred-bound c))) ∙ em
+  read-centred = toZ-ofZ w32 m (rw em (sized-fits w32 (centred c) (omega (arith, centred-bound c)))) ∙ em
 
   remainder-is : e ≡ centredRemainder (centred c)
   remainder-is = divided .0 ∙ ap centredRemainder read-centred
@@ -274,18 +267,18 @@ module _ (c : ℕ) {m e v : ℤ} (em : m ≡ centred c) (divided : (e ≡ centre
   quotient-small = rw quotient-is (quotient-bound c)
 
   read-quotient : toZ w32 (ofZ w32 v) ≡ v
-  read-quotient = toZ-ofZ w32 v (centred-fits v (omega (arith, quotient-small)))
+  read-quotient = toZ-ofZ w32 v (sized-fits w32 v (omega (arith, quotient-small)))
 
   pub remainder-chain : {r : ℕ} → r ≡ residue (toZ w32 (ofZ w32 e)) → r ≡ remainderOf c
   unfolding remainderOf
-  remainder-chain er = er ∙ ap residue (toZ-ofZ w32 e (rw remainder-is (wide (centredRemainder (centred c)) (remainder-small (centred c)))) ∙ remainder-is)
+  remainder-chain er = er ∙ ap residue (toZ-ofZ w32 e (rw remainder-is (sized-fits w32 (centredRemainder (centred c)) (omega (arith, remainder-small (centred c))))) ∙ remainder-is)
 
   pub quotient-narrow : SFits w16 (toZ w32 (ofZ w32 v))
-  quotient-narrow = rw read-quotient (narrow v quotient-small)
+  quotient-narrow = rw read-quotient (sized-fits w16 v (omega (arith, quotient-small)))
 
   pub quotient-chain : toZ w16 (ofZ w16 (toZ w32 (ofZ w32 v))) ≡ quotientOf c
   quotient-chain = toZ-ofZ w16 _ quotient-narrow ∙ read-quotient ∙ quotient-is
 
 -- a quotient that goes through its bits
 pub quotient-read : (c : ℕ) {v : ℤ} → v ≡ quotientOf c → toZ w16 (ofZ w16 v) ≡ quotientOf c
-quotient-read c {v} e = toZ-ofZ w16 v (rw e (narrow (quotientOf c) (quotient-bound c))) ∙ e
+quotient-read c {v} e = toZ-ofZ w16 v (rw e (sized-fits w16 (quotientOf c) (omega (arith, quotient-bound c)))) ∙ e
