@@ -5,12 +5,10 @@ ghost use Rattle.algebra.specs.Numbers.{addMod, subMod, mulMod};
 ghost use Rattle.modq.specs.Modulus.{q, reciprocalOf};
 ghost use Rattle.modq.specs.Montgomery.{montgomeryForm, montgomeryProduct};
 
-// q, and q at other widths.
+// q, and q at another width.
 pub const Q: u16 = 59393;
 
 pub const Q_U32: u32 = Q as u32;
-
-pub const Q_I32: i32 = Q as i32;
 
 // A word is below 2 q.
 pub fn reduce(x: u16) -> u16

@@ -27,9 +27,9 @@ fn integers_agree(w: u16, m: u32, r: u32, k: u32) -> bool
     let d = ring::centred_division(found);
     let remainder = d.remainder;
     let quotient = d.quotient;
-    same_integers(found, signed(m))
-        & same_integers(remainder, signed(r))
-        & same_integers(quotient, signed(k))
+    same_integers(found as i32, signed(m))
+        & same_integers(remainder as i32, signed(r))
+        & same_integers(quotient as i32, signed(k))
 }
 
 pub fn remainder_agrees(text: &[u8]) -> bool

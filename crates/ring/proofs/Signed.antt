@@ -1,6 +1,6 @@
--- The machine's signed values: each step of the code goes through the bits of its result, `toZ w32 (ofZ w32 z)`, which is z where z fits.
+-- The machine's signed values: each step of the code goes through the bits of its result, `toZ w16 (ofZ w16 z)`, which is z where z fits.
 use mathlib.Core.Path.{_≡_, refl, sym, ap, _∙_}
-use mathlib.Core.Bool.{true, false, true≢false}
+use mathlib.Core.Bool.{Bool, true, false, true≢false}
 use Prim.Native.Nat.{ℕ, zero, suc, _+_, _-_, _/_, _%_, _^_, _≤_, _<_}
 use native.Mathlib.Nat.{div-le-self, lt-of-le-of-lt}
 use native.Mathlib.Omega.{arith}
@@ -8,13 +8,13 @@ use lib.Dec.{T, lit<}
 use lib.IntN.{ℤ, pos, negsuc, negℤ, natAbs, _-ℤ_, _+ℤ_, negℤ-negℤ}
 use lib.Signed.{mag, ltZ, remZ, quotZ, mag-rem, nonNeg}
 use borrow.Author.Tests.{ltb-true, ltb-false}
-use mir.Syntax.{Width, w32, w16}
+use mir.Syntax.{Width, w16}
 use mir.Val.{hbits, SFits, Fits, toZ, ofZ}
 use mir.ValLaws.{toZ-pos, toZ-ofZ, sfits-le}
 use Rattle.ring.specs.Ring.{q}
 use Rattle.ring.specs.Centred.{centred, residue, aroundZero, centredRemainder, centredQuotient, remainderOf, quotientOf}
 use Rattle.ring.proofs.Integers.{minus-up, sub-down}
-use Rattle.ring.proofs.Centring.{centred-low, centred-high, centred-bound, residue-below}
+use Rattle.ring.proofs.Centring.{centred-low, centred-high, centred-bound}
 use Rattle.ring.proofs.RemainderLaws.{around-low, around-high, remainder-small}
 use Rattle.ring.proofs.QuotientLaws.{quotient-bound}
 
@@ -37,53 +37,59 @@ sized-fits w z h = record { sfits = lt-of-le-of-lt (mag-size z) h }
 
 -- ---- centred values, from the residue y of the word
 
+opposite : (k : ℕ) → pos 0 -ℤ pos k ≡ negℤ (pos k)
+opposite zero = refl
+opposite (suc k) =
+    let e : suc k - 0 ≡ suc k = omega arith in
+    minus-up 0 (suc k) (omega arith) ∙ ap (λ (x : ℕ). negℤ (pos x)) e
+
 module _ (c : ℕ) where
   abbrev y : ℕ
   y = c % q
 
-  word : toZ w32 y ≡ pos y
-  word = toZ-pos w32 y (omega arith)
+  pub centre-low : y ≤ 29696 → toZ w16 y ≡ centred c
+  centre-low h = toZ-pos w16 y (omega arith) ∙ sym (centred-low c h)
 
-  pub centre-fits : SFits w32 (toZ w32 y -ℤ pos q)
-  centre-fits = record { sfits = rw (word, minus-up y q (omega arith)) (omega (arith, mag-neg (q - y))) }
+  module _ (h : 29696 < y) where
+    distance : pos 0 -ℤ toZ w16 (q - y) ≡ negℤ (pos (q - y))
+    distance = ap (λ (z : ℤ). pos 0 -ℤ z) (toZ-pos w16 (q - y) (omega arith)) ∙ opposite (q - y)
 
-  pub centre-low : y ≤ 29696 → toZ w32 y ≡ centred c
-  centre-low h = word ∙ sym (centred-low c h)
+    pub centre-fits : SFits w16 (pos 0 -ℤ toZ w16 (q - y))
+    centre-fits = record { sfits = rw distance (omega (arith, mag-neg (q - y))) }
 
-  pub centre-high : 29696 < y → toZ w32 (ofZ w32 (toZ w32 y -ℤ pos q)) ≡ centred c
-  centre-high h =
-      toZ-ofZ w32 _ centre-fits ∙ ap (λ (z : ℤ). z -ℤ pos q) word ∙ minus-up y q (omega arith) ∙ sym (centred-high c h)
+    pub centre-high : toZ w16 (ofZ w16 (pos 0 -ℤ toZ w16 (q - y))) ≡ centred c
+    centre-high = toZ-ofZ w16 _ centre-fits ∙ distance ∙ sym (centred-high c h)
 
 -- ---- the machine's remainder of m by d
 
-module _ (m : ℤ) (f : SFits w32 m) (d : ℕ) (some : 0 < d) where
+module _ (m : ℤ) (f : SFits w16 m) (d : ℕ) (some : 0 < d) where
   -- the argument, as the code reads it
   abbrev m′ : ℤ
-  m′ = toZ w32 (ofZ w32 m)
+  m′ = toZ w16 (ofZ w16 m)
 
   -- `m % d`
   abbrev t′ : ℤ
-  t′ = toZ w32 (ofZ w32 (remZ m′ (pos d)))
+  t′ = toZ w16 (ofZ w16 (remZ m′ (pos d)))
 
   same : m′ ≡ m
-  same = toZ-ofZ w32 m f
+  same = toZ-ofZ w16 m f
 
   mag-quot : (z : ℤ) → mag (quotZ z (pos d)) ≤ mag z
   mag-quot (pos a) = div-le-self a d
   mag-quot (negsuc a) = mag-down a (suc a / d) (div-le-self (suc a) d)
 
-  pub quotient-fits : (0 < d) × SFits w32 (quotZ m′ (pos d))
+  pub quotient-fits : (0 < d) × SFits w16 (quotZ m′ (pos d))
   quotient-fits = (some, rw same (sfits-le (mag-quot m) f))
 
   pub machine-remainder : t′ ≡ remZ m (pos d)
-  machine-remainder = toZ-ofZ w32 (remZ m′ (pos d)) (rw same (sfits-le (mag-rem m (pos d)) f)) ∙ ap (λ (z : ℤ). remZ z (pos d)) same
+  machine-remainder = toZ-ofZ w16 (remZ m′ (pos d)) (rw same (sfits-le (mag-rem m (pos d)) f)) ∙ ap (λ (z : ℤ). remZ z (pos d)) same
 
   -- `m / d`
   abbrev v′ : ℤ
-  v′ = toZ w32 (ofZ w32 (quotZ m′ (pos d)))
+  v′ = toZ w16 (ofZ w16 (quotZ m′ (pos d)))
 
   pub machine-quotient : v′ ≡ quotZ m (pos d)
-  machine-quotient = toZ-ofZ w32 (quotZ m′ (pos d)) (quotient-fits .1) ∙ ap (λ (z : ℤ). quotZ z (pos d)) same
+  machine-quotient = toZ-ofZ w16 (quotZ m′ (pos d)) (quotient-fits .1) ∙ ap (λ (z : ℤ). quotZ z (pos d)) same
 
 -- ---- the remainder and the quotient by 5, from the machine's t and v
 
@@ -151,7 +157,7 @@ quotient-mag (pos a) = omega arith
 quotient-mag (negsuc a) = mag-down a ((suc a + 2) / 5) (omega arith)
 
 -- the same of the code's own t and v
-module _ (m : ℤ) (f : SFits w32 m) where
+module _ (m : ℤ) (f : SFits w16 m) where
   abbrev t : ℤ
   t = t′ m f 5 (lit< tt)
 
@@ -165,10 +171,10 @@ module _ (m : ℤ) (f : SFits w32 m) where
   v-is = machine-quotient m f 5 (lit< tt)
 
   -- a remainder and a quotient that were worked out fit, and are read back
-  remainder-fits : (z : ℤ) → z ≡ centredRemainder m → SFits w32 z
-  remainder-fits z e = rw e (sized-fits w32 (centredRemainder m) (omega (arith, remainder-small m)))
+  remainder-fits : (z : ℤ) → z ≡ centredRemainder m → SFits w16 z
+  remainder-fits z e = rw e (sized-fits w16 (centredRemainder m) (omega (arith, remainder-small m)))
 
-  quotient-wide : (z : ℤ) → z ≡ centredQuotient m → SFits w32 z
+  quotient-wide : (z : ℤ) → z ≡ centredQuotient m → SFits w16 z
   quotient-wide z e = rw e (sfits-le (quotient-mag m) f)
 
   lowered : ltZ (pos 2) t ≡ true → (t -ℤ pos 5 ≡ centredRemainder m) × (v +ℤ pos 1 ≡ centredQuotient m)
@@ -177,84 +183,87 @@ module _ (m : ℤ) (f : SFits w32 m) where
   raised : ltZ t (negsuc 1) ≡ true → (t +ℤ pos 5 ≡ centredRemainder m) × (v -ℤ pos 1 ≡ centredQuotient m)
   raised h = rw (t-is, v-is) (raise m (ap (λ (z : ℤ). ltZ z (negsuc 1)) (sym t-is) ∙ h))
 
-  pub lowered-fits : ltZ (pos 2) t ≡ true → SFits w32 (t -ℤ pos 5)
+  pub lowered-fits : ltZ (pos 2) t ≡ true → SFits w16 (t -ℤ pos 5)
   lowered-fits h = remainder-fits _ (lowered h .0)
 
-  pub lowered-quotient-fits : ltZ (pos 2) t ≡ true → SFits w32 (v +ℤ pos 1)
+  pub lowered-quotient-fits : ltZ (pos 2) t ≡ true → SFits w16 (v +ℤ pos 1)
   lowered-quotient-fits h = quotient-wide _ (lowered h .1)
 
-  pub raised-fits : ltZ t (negsuc 1) ≡ true → SFits w32 (t +ℤ pos 5)
+  pub raised-fits : ltZ t (negsuc 1) ≡ true → SFits w16 (t +ℤ pos 5)
   raised-fits h = remainder-fits _ (raised h .0)
 
-  pub raised-quotient-fits : ltZ t (negsuc 1) ≡ true → SFits w32 (v -ℤ pos 1)
+  pub raised-quotient-fits : ltZ t (negsuc 1) ≡ true → SFits w16 (v -ℤ pos 1)
   raised-quotient-fits h = quotient-wide _ (raised h .1)
 
   pub lowered-is : ltZ (pos 2) t ≡ true
-      → (toZ w32 (ofZ w32 (t -ℤ pos 5)) ≡ centredRemainder m) × (toZ w32 (ofZ w32 (v +ℤ pos 1)) ≡ centredQuotient m)
-  lowered-is h = (toZ-ofZ w32 _ (lowered-fits h) ∙ lowered h .0, toZ-ofZ w32 _ (lowered-quotient-fits h) ∙ lowered h .1)
+      → (toZ w16 (ofZ w16 (t -ℤ pos 5)) ≡ centredRemainder m) × (toZ w16 (ofZ w16 (v +ℤ pos 1)) ≡ centredQuotient m)
+  lowered-is h = (toZ-ofZ w16 _ (lowered-fits h) ∙ lowered h .0, toZ-ofZ w16 _ (lowered-quotient-fits h) ∙ lowered h .1)
 
   pub raised-is : ltZ t (negsuc 1) ≡ true
-      → (toZ w32 (ofZ w32 (t +ℤ pos 5)) ≡ centredRemainder m) × (toZ w32 (ofZ w32 (v -ℤ pos 1)) ≡ centredQuotient m)
-  raised-is h = (toZ-ofZ w32 _ (raised-fits h) ∙ raised h .0, toZ-ofZ w32 _ (raised-quotient-fits h) ∙ raised h .1)
+      → (toZ w16 (ofZ w16 (t +ℤ pos 5)) ≡ centredRemainder m) × (toZ w16 (ofZ w16 (v -ℤ pos 1)) ≡ centredQuotient m)
+  raised-is h = (toZ-ofZ w16 _ (raised-fits h) ∙ raised h .0, toZ-ofZ w16 _ (raised-quotient-fits h) ∙ raised h .1)
 
   pub kept-is : ltZ (pos 2) t ≡ false → ltZ t (negsuc 1) ≡ false → (t ≡ centredRemainder m) × (v ≡ centredQuotient m)
   kept-is h g =
       rw (t-is, v-is) (keep m (ap (ltZ (pos 2)) (sym t-is) ∙ h) (ap (λ (z : ℤ). ltZ z (negsuc 1)) (sym t-is) ∙ g))
 
--- ---- the residue modulo q, from the machine's t
+-- ---- the residue modulo q of an integer of 16 bits: below 0 it is as far below q
 
-abbrev tq : ℤ → ℤ
-tq m = remZ m (pos q)
-
--- below 0 it is q too low
-wrap : (m : ℤ) → ltZ (tq m) (pos 0) ≡ true → tq m +ℤ pos q ≡ pos (residue m)
+negative : (m : ℤ) → mag m < 32768 → ltZ m (pos 0) ≡ true → (negsuc 0 -ℤ m ≡ pos (mag m)) × (q - 1 - mag m ≡ residue m)
 unfolding residue
-wrap (pos a) h = absurd (omega (arith, ltb-true (a % q) 0 h))
-wrap (negsuc a) h = up (suc a % q) (omega arith) h
-  where
-    up : (r : ℕ) → r < q → ltZ (negℤ (pos r)) (pos 0) ≡ true → negℤ (pos r) +ℤ pos q ≡ pos ((0 + (q - r)) % q)
-    up zero l e = absurd (omega (arith, ltb-true 0 0 e))
-    up (suc r) l e = sub-down q (suc r) (omega arith) ∙ ap pos (omega arith)
+negative (pos a) f h = absurd (omega (arith, ltb-true a 0 h))
+negative (negsuc a) f h =
+    let e : suc a - 1 ≡ a = omega arith in
+    (sub-down (suc a) 1 (omega arith) ∙ ap pos e, omega arith)
 
-stay : (m : ℤ) → ltZ (tq m) (pos 0) ≡ false → tq m ≡ pos (residue m)
+natural : (m : ℤ) → mag m < 32768 → ltZ m (pos 0) ≡ false → (m ≡ pos (mag m)) × (mag m ≡ residue m)
 unfolding residue
-stay (pos a) h = refl
-stay (negsuc a) h = none (suc a % q) h
-  where
-    none : (r : ℕ) → ltZ (negℤ (pos r)) (pos 0) ≡ false → negℤ (pos r) ≡ pos ((0 + (q - r)) % q)
-    none zero e = refl
-    none (suc r) e = absurd (true≢false e)
+natural (pos a) f h = (ap pos (omega arith), omega arith)
+natural (negsuc a) f h = absurd (true≢false h)
 
--- a number that is a residue is a u16
-pub residue-word : (z m : ℤ) → z ≡ pos (residue m) → T (nonNeg z) × Fits w16 (natAbs z)
-residue-word z m e = rw e (tt, record { fits = omega (arith, residue-below m) })
+-- the same of the code's own m
+module _ (m : ℤ) (f : SFits w16 m) where
+  abbrev r : ℤ
+  r = toZ w16 (ofZ w16 m)
 
--- the same of the code's own t, here s
-module _ (m : ℤ) (f : SFits w32 m) where
-  abbrev s : ℤ
-  s = t′ m f q (lit< tt)
+  r-is : r ≡ m
+  r-is = toZ-ofZ w16 m f
 
-  s-is : s ≡ tq m
-  s-is = machine-remainder m f q (lit< tt)
+  tested : {b : Bool} → ltZ r (pos 0) ≡ b → ltZ m (pos 0) ≡ b
+  tested h = ap (λ (z : ℤ). ltZ z (pos 0)) (sym r-is) ∙ h
 
-  wrapped : ltZ s (pos 0) ≡ true → s +ℤ pos q ≡ pos (residue m)
-  wrapped h = ap (λ (z : ℤ). z +ℤ pos q) s-is ∙ wrap m (ap (λ (z : ℤ). ltZ z (pos 0)) (sym s-is) ∙ h)
+  away : ltZ r (pos 0) ≡ true → negsuc 0 -ℤ r ≡ pos (mag m)
+  away h = ap (λ (z : ℤ). negsuc 0 -ℤ z) r-is ∙ negative m (f .sfits) (tested h) .0
 
-  pub wrapped-fits : ltZ s (pos 0) ≡ true → SFits w32 (s +ℤ pos q)
-  wrapped-fits h = rw (wrapped h) (record { sfits = omega (arith, residue-below m) })
+  pub away-fits : ltZ r (pos 0) ≡ true → SFits w16 (negsuc 0 -ℤ r)
+  away-fits h = rw (away h) (record { sfits = f .sfits })
 
-  pub wrapped-is : ltZ s (pos 0) ≡ true → toZ w32 (ofZ w32 (s +ℤ pos q)) ≡ pos (residue m)
-  wrapped-is h = toZ-ofZ w32 _ (wrapped-fits h) ∙ wrapped h
+  pub away-is : ltZ r (pos 0) ≡ true → toZ w16 (ofZ w16 (negsuc 0 -ℤ r)) ≡ pos (mag m)
+  away-is h = toZ-ofZ w16 _ (away-fits h) ∙ away h
 
-  pub stayed-is : ltZ s (pos 0) ≡ false → s ≡ pos (residue m)
-  stayed-is h = s-is ∙ stay m (ap (λ (z : ℤ). ltZ z (pos 0)) (sym s-is) ∙ h)
+  pub stays : ltZ r (pos 0) ≡ false → r ≡ pos (mag m)
+  stays h = r-is ∙ natural m (f .sfits) (tested h) .0
+
+  -- what was worked out is a u16
+  pub size-word : (z : ℤ) → z ≡ pos (mag m) → T (nonNeg z) × Fits w16 (natAbs z)
+  size-word z e = rw e (tt, record { fits = omega (arith, f .sfits) })
+
+  pub negative-residue : ltZ r (pos 0) ≡ true → q - 1 - natAbs (toZ w16 (ofZ w16 (negsuc 0 -ℤ r))) ≡ residue m
+  negative-residue h = ap (λ (z : ℤ). q - 1 - natAbs z) (away-is h) ∙ negative m (f .sfits) (tested h) .1
+
+  pub natural-residue : ltZ r (pos 0) ≡ false → natAbs r ≡ residue m
+  natural-residue h = ap natAbs (stays h) ∙ natural m (f .sfits) (tested h) .1
 
 -- ---- one after the other: each result goes to the next call through its bits
 
+-- a quotient that goes through its bits
+pub quotient-read : (c : ℕ) {v : ℤ} → v ≡ quotientOf c → toZ w16 (ofZ w16 v) ≡ quotientOf c
+quotient-read c {v} e = toZ-ofZ w16 v (rw e (sized-fits w16 (quotientOf c) (omega (arith, quotient-bound c)))) ∙ e
+
 -- m is a centred value, e and v are its remainder and its quotient
-module _ (c : ℕ) {m e v : ℤ} (em : m ≡ centred c) (divided : (e ≡ centredRemainder (toZ w32 (ofZ w32 m))) × (v ≡ centredQuotient (toZ w32 (ofZ w32 m)))) where
-  read-centred : toZ w32 (ofZ w32 m) ≡ centred c
-  read-centred = toZ-ofZ w32 m (rw em (sized-fits w32 (centred c) (omega (arith, centred-bound c)))) ∙ em
+module _ (c : ℕ) {m e v : ℤ} (em : m ≡ centred c) (divided : (e ≡ centredRemainder (toZ w16 (ofZ w16 m))) × (v ≡ centredQuotient (toZ w16 (ofZ w16 m)))) where
+  read-centred : toZ w16 (ofZ w16 m) ≡ centred c
+  read-centred = toZ-ofZ w16 m (rw em (sized-fits w16 (centred c) (omega (arith, centred-bound c)))) ∙ em
 
   remainder-is : e ≡ centredRemainder (centred c)
   remainder-is = divided .0 ∙ ap centredRemainder read-centred
@@ -263,22 +272,9 @@ module _ (c : ℕ) {m e v : ℤ} (em : m ≡ centred c) (divided : (e ≡ centre
   unfolding quotientOf
   quotient-is = divided .1 ∙ ap centredQuotient read-centred
 
-  quotient-small : natAbs v ≤ 5939
-  quotient-small = rw quotient-is (quotient-bound c)
-
-  read-quotient : toZ w32 (ofZ w32 v) ≡ v
-  read-quotient = toZ-ofZ w32 v (sized-fits w32 v (omega (arith, quotient-small)))
-
-  pub remainder-chain : {r : ℕ} → r ≡ residue (toZ w32 (ofZ w32 e)) → r ≡ remainderOf c
+  pub remainder-chain : {r : ℕ} → r ≡ residue (toZ w16 (ofZ w16 e)) → r ≡ remainderOf c
   unfolding remainderOf
-  remainder-chain er = er ∙ ap residue (toZ-ofZ w32 e (rw remainder-is (sized-fits w32 (centredRemainder (centred c)) (omega (arith, remainder-small (centred c))))) ∙ remainder-is)
+  remainder-chain er = er ∙ ap residue (toZ-ofZ w16 e (rw remainder-is (sized-fits w16 (centredRemainder (centred c)) (omega (arith, remainder-small (centred c))))) ∙ remainder-is)
 
-  pub quotient-narrow : SFits w16 (toZ w32 (ofZ w32 v))
-  quotient-narrow = rw read-quotient (sized-fits w16 v (omega (arith, quotient-small)))
-
-  pub quotient-chain : toZ w16 (ofZ w16 (toZ w32 (ofZ w32 v))) ≡ quotientOf c
-  quotient-chain = toZ-ofZ w16 _ quotient-narrow ∙ read-quotient ∙ quotient-is
-
--- a quotient that goes through its bits
-pub quotient-read : (c : ℕ) {v : ℤ} → v ≡ quotientOf c → toZ w16 (ofZ w16 v) ≡ quotientOf c
-quotient-read c {v} e = toZ-ofZ w16 v (rw e (sized-fits w16 (quotientOf c) (omega (arith, quotient-bound c)))) ∙ e
+  pub quotient-chain : toZ w16 (ofZ w16 v) ≡ quotientOf c
+  quotient-chain = quotient-read c quotient-is

@@ -2,7 +2,6 @@
 // Every word is taken as its residue modulo q, and the public functions are total. A result is built up from 1,024 zeros.
 // The reciprocals of a spectrum, and the test whether there are any, are those of crate reciprocals.
 use modq::Q;
-use modq::Q_I32;
 use ntt::DEGREE;
 use ntt::Element;
 use ntt::FACTORS;
@@ -58,23 +57,26 @@ pub fn multiple(c: u16, a: Element) -> Element
 // ---- centred values, and their division by 5
 
 // The centred value of a coefficient, from - 29,696 to 29,696.
-pub fn centred(c: u16) -> i32
+pub fn centred(c: u16) -> i16
     ensures { λ r. ⌜ r ≡ centred c ⌝ }
 {
     let y = c % Q;
-    let z = y as i32;
-    if y <= 29696 { z } else { z - Q_I32 }
+    if y <= 29696 {
+        return y as i16;
+    }
+    let z = (Q - y) as i16;
+    0 - z
 }
 
 // What dividing an integer by 5 gives.
 pub struct Division {
-    pub remainder: i32,
-    pub quotient: i32,
+    pub remainder: i16,
+    pub quotient: i16,
 }
 
 // m = remainder + 5 × quotient, with the remainder between - 2 and 2. That of the machine has the sign of m and is between - 4 and 4, and its
 // quotient is rounded toward zero: where the remainder moves by 5, the quotient moves by 1.
-pub fn centred_division(m: i32) -> Division
+pub fn centred_division(m: i16) -> Division
     ensures { λ d. ⌜ (d .remainder ≡ centredRemainder m) × (d .quotient ≡ centredQuotient m) ⌝ }
 {
     let t = m % 5;
@@ -102,11 +104,14 @@ pub fn centred_division(m: i32) -> Division
 }
 
 // The residue modulo q of an integer.
-pub fn residue(m: i32) -> u16
+pub fn residue(m: i16) -> u16
     ensures { λ r. ⌜ r ≡ residue m ⌝ }
 {
-    let t = m % Q_I32;
-    if t < 0 { (t + Q_I32) as u16 } else { t as u16 }
+    if m < 0 {
+        let k = (-1 - m) as u16;
+        return Q - 1 - k;
+    }
+    m as u16
 }
 
 // The remainder as a coefficient, and the quotient, which is between - 5,939 and 5,939.
@@ -121,7 +126,7 @@ fn divide_coefficient(c: u16) -> CoefficientDivision
     let m = centred(c);
     let d = centred_division(m);
     let remainder = residue(d.remainder);
-    let quotient = d.quotient as i16;
+    let quotient = d.quotient;
     CoefficientDivision {
         remainder,
         quotient,

@@ -64,7 +64,7 @@ fn signed_noise(bytes: &[u8]) -> [i16; DEGREE]
 fn coefficient(value: i16) -> u16
     ensures { λ r. ⌜ r ≡ residue value ⌝ }
 {
-    ring::residue(value as i32)
+    ring::residue(value)
 }
 
 // The coefficients of all values, in a loop of their own: here the compiler works on eight at once, which it cannot where a table is read.

@@ -1,27 +1,36 @@
-use mathlib.Core.Path.{ap}
-use lib.Dec.{lit<}
-use lib.IntN.{natAbs}
-use Rattle.ring.proofs.Signed.{quotient-fits, residue-word, wrapped-fits, wrapped-is, stayed-is}
+use native.Mathlib.Omega.{arith}
+use Rattle.ring.proofs.Signed.{away-fits, away-is, stays, size-word, negative-residue, natural-residue}
+use borrow.Author.Needs.{needs}
 use Rattle.ring.proofs.residue.Statement.{statement}
 use Rattle.ring.proofs.residue.Tie as tie
 
-rem-t : tie.Need-rem-t
-rem-t c = quotient-fits (c .args .m) (c .fits .m) 59393 (lit< tt)
+sub-k : tie.Need-sub-k
+sub-k c = away-fits (c .before .args .m) (c .before .fits .m) (c .if1 .taken)
 
-add-result : tie.Need-add-result
-add-result c = wrapped-fits (c .before .args .m) (c .before .fits .m) (c .if1 .taken)
+cast-k : tie.Need-cast-k
+cast-k c =
+    let start = c .before in
+    size-word (start .args .m) (start .fits .m) _ (away-is (start .args .m) (start .fits .m) (c .if1 .taken))
 
-cast-result : tie.Need-cast-result
-cast-result c = residue-word _ (c .before .args .m) (wrapped-is (c .before .args .m) (c .before .fits .m) (c .if1 .taken))
+sub-result : tie.Need-sub-result
+sub-result c = search needs
 
-cast-result-2 : tie.Need-cast-result-2
-cast-result-2 c = residue-word _ (c .before .args .m) (stayed-is (c .before .args .m) (c .before .fits .m) (c .if1 .left))
+sub-result-2 : tie.Need-sub-result-2
+sub-result-2 c =
+    let start = c .before in
+    rw (away-is (start .args .m) (start .fits .m) (c .if1 .taken)) (omega (arith, start .fits .m .sfits))
 
 returns : tie.Need-returns
-returns c = ap natAbs (wrapped-is (c .before .args .m) (c .before .fits .m) (c .if1 .taken))
+returns c = negative-residue (c .before .args .m) (c .before .fits .m) (c .if1 .taken)
+
+cast-result : tie.Need-cast-result
+cast-result c =
+    let start = c .before in
+    size-word (start .args .m) (start .fits .m) _ (stays (start .args .m) (start .fits .m) (c .if1 .left))
 
 returns-2 : tie.Need-returns-2
-returns-2 c = ap natAbs (stayed-is (c .before .args .m) (c .before .fits .m) (c .if1 .left))
+returns-2 c = natural-residue (c .before .args .m) (c .before .fits .m) (c .if1 .left)
 
 pub residue-spec : {M : Type 1} → statement M
-residue-spec = tie.close (tie.spec rem-t add-result cast-result cast-result-2 returns returns-2)
+residue-spec =
+    tie.close (tie.spec sub-k cast-k sub-result sub-result-2 returns cast-result returns-2)
