@@ -6,18 +6,18 @@ use Prim.Native.Nat.{ℕ, zero, suc, ◌+◌, ◌-◌, ◌%◌, ◌<◌}
 use native.Mathlib.Nat.{mod-lt, mod-eq_of_lt, add-mod-mod, zero-add}
 use lib.ListN.{length, get_or, length-map}
 use Rattle.lists.specs.Table.{table}
-use Rattle.lists.proofs.Tables.{getD-table, table_is, table_same, map-table, table-getD}
+use Rattle.lists.proofs.Tables.{get_or-table, table_is, table_same, map-table, table-get_or}
 use Rattle.algebra.specs.Ring.{CommRing}
 use Rattle.algebra.specs.Residues.{Residue, residue, residues}
 use Rattle.algebra.specs.Polynomials.{coefficient, Polynomial}
 use Rattle.algebra.specs.Polynomials as P
-use Rattle.algebra.specs.Numbers.{Element, Elements, addMod, subMod, mulMod, plus, minus, negate, scale, reduced, constant, one}
+use Rattle.algebra.specs.Numbers.{Element, Elements, add_mod, sub_mod, mul_mod, plus, minus, negate, scale, reduced, constant, one}
 use Rattle.algebra.specs.OnNumbers.{IsProduct}
 use Rattle.algebra.proofs.Ring as L
 use Rattle.algebra.proofs.Ring.{subring}
 use Rattle.algebra.proofs.Residues.{ℤ/, of-mod, of_zero, of_one}
 use Rattle.algebra.proofs.Polynomials as Q
-use Rattle.algebra.proofs.Numbers.{below_at, element-table, element-prop, of-addMod, of-subMod, of-mulMod, of-coefficient, residues-injective}
+use Rattle.algebra.proofs.Numbers.{below_at, element-table, element-prop, of-add_mod, of-sub_mod, of-mul_mod, of-coefficient, residues_injective}
 
 pub elements_same : {q n : ℕ} (x y : Elements q n) → x.0 ≡ y.0 → x ≡ y
 elements_same {q} {n} x y e = Σ_prop_path (element-prop q n) e
@@ -38,31 +38,31 @@ module _ (q : ℕ) (pos : 0 < q) (n : ℕ) where
 
   -- ---- the entries
 
-  pub plus-at : (a b : List ℕ) (k : ℕ) → k < n → get_or (plus q n a b) k 0 ≡ addMod q (get_or a k 0) (get_or b k 0)
+  pub plus-at : (a b : List ℕ) (k : ℕ) → k < n → get_or (plus q n a b) k 0 ≡ add_mod q (get_or a k 0) (get_or b k 0)
   unfolding plus
-  plus-at a b k h = getD-table n _ k 0 h
+  plus-at a b k h = get_or-table n _ k 0 h
 
-  pub minus-at : (a b : List ℕ) (k : ℕ) → k < n → get_or (minus q n a b) k 0 ≡ subMod q (get_or a k 0) (get_or b k 0)
+  pub minus-at : (a b : List ℕ) (k : ℕ) → k < n → get_or (minus q n a b) k 0 ≡ sub_mod q (get_or a k 0) (get_or b k 0)
   unfolding minus
-  minus-at a b k h = getD-table n _ k 0 h
+  minus-at a b k h = get_or-table n _ k 0 h
 
-  pub negate-at : (a : List ℕ) (k : ℕ) → k < n → get_or (negate q n a) k 0 ≡ subMod q 0 (get_or a k 0)
+  pub negate-at : (a : List ℕ) (k : ℕ) → k < n → get_or (negate q n a) k 0 ≡ sub_mod q 0 (get_or a k 0)
   unfolding negate
-  negate-at a k h = getD-table n _ k 0 h
+  negate-at a k h = get_or-table n _ k 0 h
 
-  pub scale_at : (c : ℕ) (a : List ℕ) (k : ℕ) → k < n → get_or (scale q n c a) k 0 ≡ mulMod q c (get_or a k 0)
+  pub scale_at : (c : ℕ) (a : List ℕ) (k : ℕ) → k < n → get_or (scale q n c a) k 0 ≡ mul_mod q c (get_or a k 0)
   unfolding scale
-  scale_at c a k h = getD-table n _ k 0 h
+  scale_at c a k h = get_or-table n _ k 0 h
 
   pub reduced-at : (a : List ℕ) (k : ℕ) → k < n → get_or (reduced q n a) k 0 ≡ get_or a k 0 % q
   unfolding reduced
-  reduced-at a k h = getD-table n _ k 0 h
+  reduced-at a k h = get_or-table n _ k 0 h
 
   -- a difference is the sum with the opposite
   pub minus_is : (a b : List ℕ) → minus q n a b ≡ plus q n a (negate q n b)
   unfolding minus plus
   minus_is a b = table_same n _ _ (λ k h.
-      sym (ap (addMod q (get_or a k 0)) (negate-at b k h) ∙ add-mod-mod (get_or a k 0) (0 + (q - get_or b k 0 % q)) q
+      sym (ap (add_mod q (get_or a k 0)) (negate-at b k h) ∙ add-mod-mod (get_or a k 0) (0 + (q - get_or b k 0 % q)) q
       ∙ ap (λ (x : ℕ). (get_or a k 0 + x) % q) (zero-add _)))
 
   -- an element is reduced
@@ -96,30 +96,30 @@ module _ (q : ℕ) (pos : 0 < q) (n : ℕ) where
   unfolding plus P.plus
   residues-plus a b =
       map-table z n _
-      ∙ table_same n _ _ (λ k h. of-addMod q pos _ _ ∙ ap₂ (λ (x y : Residue q). x ⊕ y) (sym (of-coefficient q pos a k)) (sym (of-coefficient q pos b k)))
+      ∙ table_same n _ _ (λ k h. of-add_mod q pos _ _ ∙ ap₂ (λ (x y : Residue q). x ⊕ y) (sym (of-coefficient q pos a k)) (sym (of-coefficient q pos b k)))
 
   pub residues-minus : (a b : List ℕ) → zs (minus q n a b) ≡ table n (λ k. coefficient Z (zs a) k ⊕ neg (coefficient Z (zs b) k))
   unfolding minus
   residues-minus a b =
       map-table z n _
-      ∙ table_same n _ _ (λ k h. of-subMod q pos _ _ ∙ ap₂ (λ (x y : Residue q). x ⊕ neg y) (sym (of-coefficient q pos a k)) (sym (of-coefficient q pos b k)))
+      ∙ table_same n _ _ (λ k h. of-sub_mod q pos _ _ ∙ ap₂ (λ (x y : Residue q). x ⊕ neg y) (sym (of-coefficient q pos a k)) (sym (of-coefficient q pos b k)))
 
   pub residues-negate : (a : List ℕ) → zs (negate q n a) ≡ P.negate Z n (zs a)
   unfolding negate P.negate
   residues-negate a = map-table z n _ ∙ table_same n _ _ (λ k h.
-      of-subMod q pos 0 (get_or a k 0) ∙ ap₂ (λ (x y : Residue q). x ⊕ neg y) (of_zero q pos) (sym (of-coefficient q pos a k)) ∙ L.zero-plus Z _)
+      of-sub_mod q pos 0 (get_or a k 0) ∙ ap₂ (λ (x y : Residue q). x ⊕ neg y) (of_zero q pos) (sym (of-coefficient q pos a k)) ∙ L.zero-plus Z _)
 
   pub residues-scale : (c : ℕ) (a : List ℕ) → zs (scale q n c a) ≡ table n (λ k. z c ⊗ coefficient Z (zs a) k)
   unfolding scale
   residues-scale c a =
-      map-table z n _ ∙ table_same n _ _ (λ k h. of-mulMod q pos c _ ∙ ap (λ (x : Residue q). z c ⊗ x) (sym (of-coefficient q pos a k)))
+      map-table z n _ ∙ table_same n _ _ (λ k h. of-mul_mod q pos c _ ∙ ap (λ (x : Residue q). z c ⊗ x) (sym (of-coefficient q pos a k)))
 
   pub residues-reduced : (a : List ℕ) → zs (reduced q n a) ≡ P.padded Z n (zs a)
   unfolding reduced
   residues-reduced a = map-table z n _ ∙ table_same n _ _ (λ k h. of-mod q pos _ ∙ sym (of-coefficient q pos a k))
 
-  pub residues-of-reduced : (a : List ℕ) → length a ≡ n → zs (reduced q n a) ≡ zs a
-  residues-of-reduced a h = residues-reduced a ∙ table-getD n (zs a) 𝟘 (length-map a _ ∙ h)
+  pub residues_of-reduced : (a : List ℕ) → length a ≡ n → zs (reduced q n a) ≡ zs a
+  residues_of-reduced a h = residues-reduced a ∙ table-get_or n (zs a) 𝟘 (length-map a _ ∙ h)
 
 -- ---- the ring
 
@@ -141,9 +141,9 @@ module _ (q : ℕ) (pos : 0 < q) (p : ℕ) (r : List (Residue q)) (times : List 
   abbrev pub class : Elements q (suc p) → Polynomial (ℤ/ q pos) p
   class x = (residues q pos x.0, length-map x.0 _ ∙ x.1.size)
 
-  pub class-injective : (x y : Elements q (suc p)) → class x ≡ class y → x ≡ y
-  class-injective x y e =
-      elements_same x y (residues-injective q pos x.0 y.0 x.1.below y.1.below (ap (λ (l : Polynomial (ℤ/ q pos) p). l.0) e))
+  pub class_injective : (x y : Elements q (suc p)) → class x ≡ class y → x ≡ y
+  class_injective x y e =
+      elements_same x y (residues_injective q pos x.0 y.0 x.1.below y.1.below (ap (λ (l : Polynomial (ℤ/ q pos) p). l.0) e))
 
   abbrev pub plusₑ : Elements q (suc p) → Elements q (suc p) → Elements q (suc p)
   plusₑ x y = (plus q (suc p) x.0 y.0, plus-element q pos (suc p) x.0 y.0)
@@ -181,25 +181,25 @@ module _ (q : ℕ) (pos : 0 < q) (p : ℕ) (r : List (Residue q)) (times : List 
   -- where it unfolds, the list of a sum is `plus` of the lists, that of a product `times`, that of the opposite `negate`, that of 1 is `one`
   unfoldable pub elements : CommRing (Elements q (suc p))
   elements =
-      subring polynomials class class-injective plusₑ timesₑ negateₑ (constantₑ 0) (constantₑ 1)
+      subring polynomials class class_injective plusₑ timesₑ negateₑ (constantₑ 0) (constantₑ 1)
       class-plus class-times class-negate class-zero class-one
 
   -- a product depends on the residues of its factors only
-  pub times-by-residues : (a b a' b' : List ℕ) → length a ≡ suc p → length b ≡ suc p → length a' ≡ suc p → length b' ≡ suc p
+  pub times_by-residues : (a b a' b' : List ℕ) → length a ≡ suc p → length b ≡ suc p → length a' ≡ suc p → length b' ≡ suc p
       → residues q pos a ≡ residues q pos a' → residues q pos b ≡ residues q pos b' → times a b ≡ times a' b'
-  times-by-residues a b a' b' ha hb ha' hb' e f =
-      residues-injective q pos (times a b) (times a' b') (is.element a b).below (is.element a' b').below
+  times_by-residues a b a' b' ha hb ha' hb' e f =
+      residues_injective q pos (times a b) (times a' b') (is.element a b).below (is.element a' b').below
       (is.same a b ha hb ∙ ap₂ (P.product (ℤ/ q pos) p r) e f ∙ sym (is.same a' b' ha' hb'))
 
   pub times-reduced : (a b : List ℕ) → length a ≡ suc p → length b ≡ suc p → times (reduced q (suc p) a) (reduced q (suc p) b) ≡ times a b
   times-reduced a b ha hb =
-      times-by-residues _ _ a b (reduced-element q pos (suc p) a).size (reduced-element q pos (suc p) b).size ha hb
-      (residues-of-reduced q pos (suc p) a ha) (residues-of-reduced q pos (suc p) b hb)
+      times_by-residues _ _ a b (reduced-element q pos (suc p) a).size (reduced-element q pos (suc p) b).size ha hb
+      (residues_of-reduced q pos (suc p) a ha) (residues_of-reduced q pos (suc p) b hb)
 
   -- a multiple is the product with a constant
   pub times-constant : (c : ℕ) (a : List ℕ) → length a ≡ suc p → times (constant q (suc p) c) a ≡ scale q (suc p) c a
   times-constant c a h =
-      residues-injective q pos _ _ (is.element (constant q (suc p) c) a).below (scale-element q pos (suc p) c a).below
+      residues_injective q pos _ _ (is.element (constant q (suc p) c) a).below (scale-element q pos (suc p) c a).below
       (is.same (constant q (suc p) c) a (reduced-element q pos (suc p) (c ∷ [])).size h
       ∙ ap (λ (x : List (Residue q)). P.product (ℤ/ q pos) p r x (residues q pos a)) (residues-reduced q pos (suc p) (c ∷ []))
       ∙ Q.product-constant (ℤ/ q pos) p r is.fits (residue q pos c) (residues q pos a) (length-map a _ ∙ h)
@@ -215,4 +215,4 @@ module _ (q : ℕ) (pos : 0 < q) (p : ℕ) (r : List (Residue q)) (times : List 
       (elements_same _ _ (to-b i hi.size ∙ e)) (elements_same _ _ (to-b j hj.size ∙ f)))
     where
       to-b : (i : List ℕ) → length i ≡ suc p → times (reduced q (suc p) b) i ≡ times b i
-      to-b i h = times-by-residues _ i b i (reduced-element q pos (suc p) b).size h hb h (residues-of-reduced q pos (suc p) b hb) refl
+      to-b i h = times_by-residues _ i b i (reduced-element q pos (suc p) b).size h hb h (residues_of-reduced q pos (suc p) b hb) refl

@@ -56,10 +56,10 @@ module _ {F : Type 0} (R : CommRing F) where
 
   -- ---- values of sequences, cut at n
 
-  value-𝟎 : (x : F) (n : ℕ) → value R x (table n (P.𝟎 R)) ≡ 𝟘
+  value_𝟎 : (x : F) (n : ℕ) → value R x (table n (P.𝟎 R)) ≡ 𝟘
   unfolding P.𝟎
-  value-𝟎 x zero = rw (table-zero, value-nil)
-  value-𝟎 x (suc n) = rw (table-cons, value-cons, value-𝟎 x n) (simp ring)
+  value_𝟎 x zero = rw (table-zero, value-nil)
+  value_𝟎 x (suc n) = rw (table-cons, value-cons, value_𝟎 x n) (simp ring)
 
   value-⊞ : (x : F) (n : ℕ) (u v : ℕ → F) → value R x (table n (P.◌⊞◌ R u v)) ≡ value R x (table n u) ⊕ value R x (table n v)
   unfolding P.◌⊞◌
@@ -72,9 +72,9 @@ module _ {F : Type 0} (R : CommRing F) where
   value-· x (suc n) y u = simp (table-cons, value-cons, value-· x n y (λ k. u (suc k)), ring)
 
   -- the last coefficient apart
-  value-last : (x : F) (n : ℕ) (u : ℕ → F) → value R x (table (suc n) u) ≡ value R x (table n u) ⊕ pow R x n ⊗ u n
-  value-last x zero u = rw (table-cons 0 u, table-zero, table-zero, value-cons, value-nil, pow-zero) (simp ring)
-  value-last x (suc n) u = rw (table-cons (suc n) u, table-cons n u, value-cons, value-cons, value-last x n (λ k. u (suc k)), pow-suc) (simp ring)
+  value_last : (x : F) (n : ℕ) (u : ℕ → F) → value R x (table (suc n) u) ≡ value R x (table n u) ⊕ pow R x n ⊗ u n
+  value_last x zero u = rw (table-cons 0 u, table-zero, table-zero, value-cons, value-nil, pow-zero) (simp ring)
+  value_last x (suc n) u = rw (table-cons (suc n) u, table-cons n u, value-cons, value-cons, value_last x n (λ k. u (suc k)), pow-suc) (simp ring)
 
   pub value-padded : (x : F) (n : ℕ) (a : List F) → length a ≤ n → value R x (padded R n a) ≡ value R x a
   value-padded x zero [] h = rw table-zero
@@ -93,19 +93,19 @@ module _ {F : Type 0} (R : CommRing F) where
         go true t c = refl
         go false t c = absurd t
 
-    value-timesX : (u : ℕ → F) → value R x (table (suc p) (P.timesX R p r u)) ≡ x ⊗ value R x (table (suc p) u)
-    unfolding P.timesX P.◌⊞◌ P.◌·◌
-    value-timesX u =
+    value-times_x : (u : ℕ → F) → value R x (table (suc p) (P.times_x R p r u)) ≡ x ⊗ value R x (table (suc p) u)
+    unfolding P.times_x P.◌⊞◌ P.◌·◌
+    value-times_x u =
         value-⊞ x (suc p) (P.shifted R p r u) (P.◌·◌ R (u p) (coefficient R r))
         ∙ ap₂ (λ (s t : F). s ⊕ t) (value_shifted u) (value-· x (suc p) (u p) (coefficient R r)
         ∙ ap (λ (s : F). u p ⊗ s) (value-padded x (suc p) r fits ∙ root))
-        ∙ sym (ap (λ (s : F). x ⊗ s) (value-last x p u) ∙ simp (pow-suc, ring))
+        ∙ sym (ap (λ (s : F). x ⊗ s) (value_last x p u) ∙ simp (pow-suc, ring))
 
-    value-act : (a : List F) (u : ℕ → F) → value R x (table (suc p) (P.act R (P.timesX R p r) a u)) ≡ value R x a ⊗ value R x (table (suc p) u)
+    value-act : (a : List F) (u : ℕ → F) → value R x (table (suc p) (P.act R (P.times_x R p r) a u)) ≡ value R x a ⊗ value R x (table (suc p) u)
     unfolding P.act
-    value-act [] u = value-𝟎 x (suc p) ∙ simp (value-nil, ring)
+    value-act [] u = value_𝟎 x (suc p) ∙ simp (value-nil, ring)
     value-act (c ∷ a) u =
-        value-⊞ x (suc p) _ _ ∙ ap₂ (λ (s t : F). s ⊕ t) (value-· x (suc p) c u) (value-timesX _ ∙ ap (λ (s : F). x ⊗ s) (value-act a u))
+        value-⊞ x (suc p) _ _ ∙ ap₂ (λ (s t : F). s ⊕ t) (value-· x (suc p) c u) (value-times_x _ ∙ ap (λ (s : F). x ⊗ s) (value-act a u))
         ∙ simp (value-cons, ring)
 
     pub value-product : (a b : List F) → length b ≤ suc p → value R x (product R p r a b) ≡ value R x a ⊗ value R x b

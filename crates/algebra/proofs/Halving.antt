@@ -35,13 +35,13 @@ length-exponents t (suc d) c =
     length-append (exponents t d (c / 2)) (exponents t d (c / 2 + t))
     ∙ ap₂ ◌+◌ (length-exponents t d (c / 2)) (length-exponents t d (c / 2 + t)) ∙ sym (two-pow-succ d)
 
-pub exponents-entry : (t d c e s k : ℕ) → c ≡ e * 2 ^ d → s * 2 ^ d ≡ t + t → k < 2 ^ d → get_or (exponents t d c) k 0 ≡ e + s * reversed d k
+pub exponents_entry : (t d c e s k : ℕ) → c ≡ e * 2 ^ d → s * 2 ^ d ≡ t + t → k < 2 ^ d → get_or (exponents t d c) k 0 ≡ e + s * reversed d k
 unfolding exponents reversed
-exponents-entry t zero c e s zero hc hs l = hc ∙ omega arith
-exponents-entry t zero c e s (suc k) hc hs l = absurd (omega arith)
-exponents-entry t (suc d) c e s k hc hs l =
-    pick (exponents-entry t d (c / 2) e (s + s) k half step')
-    (exponents-entry t d (c / 2 + t) (e + s) (s + s) (k - 2 ^ d) second step') (dec_lt k (2 ^ d))
+exponents_entry t zero c e s zero hc hs l = hc ∙ omega arith
+exponents_entry t zero c e s (suc k) hc hs l = absurd (omega arith)
+exponents_entry t (suc d) c e s k hc hs l =
+    pick (exponents_entry t d (c / 2) e (s + s) k half step')
+    (exponents_entry t d (c / 2 + t) (e + s) (s + s) (k - 2 ^ d) second step') (dec_lt k (2 ^ d))
   where
     half : c / 2 ≡ e * 2 ^ d
     half = omega (arith, ap (λ (m : ℕ). e * m) (two-pow-succ d), mul-add e (2 ^ d) (2 ^ d))
@@ -126,14 +126,14 @@ module _ {F : Type 0} (R : CommRing F) (ψ : F) where
       root = λ x f. ap (pow R x) hn ∙ pow-add R x h h ∙ ap₂ (λ (s s' : F). s ⊗ s') f f ∙ square;
       root' = λ x f. ap (pow R x) hn ∙ pow-add R x h h ∙ ap₂ (λ (s s' : F). s ⊗ s') f f ∙ negs (pow R ψ e) ∙ square;
       inverts = record {
-        left-11 = refl;
-        left-12 = cancel (pow R ψ e);
-        left-21 = L.neg-plus-self R _;
-        left-22 = two₁ _ _ (opposite e l);
-        right-11 = two₂ _ _ (opposite e l);
-        right-12 = none₁ _ _ (opposite e l);
-        right-21 = none₂ _ _ (opposite e l);
-        right-22 = two₃ _ _ (opposite e l);
+        left_11 = refl;
+        left_12 = cancel (pow R ψ e);
+        left_21 = L.neg-plus-self R _;
+        left_22 = two₁ _ _ (opposite e l);
+        right_11 = two₂ _ _ (opposite e l);
+        right_12 = none₁ _ _ (opposite e l);
+        right_21 = none₂ _ _ (opposite e l);
+        right_22 = two₃ _ _ (opposite e l);
       };
     }
       where
@@ -163,7 +163,7 @@ module _ {F : Type 0} (R : CommRing F) (ψ : F) where
           record {
             split = halves-split h (c / 2) (n * 2 ^ suc d) c (omega arith) (double n d) (omega (arith, half, doubled e n d));
             rest = pow R (𝟙 ⊕ 𝟙) d ⊗ k;
-            factor = ap (λ (x : F). x ⊗ k) (pow-suc R (𝟙 ⊕ 𝟙) d) ∙ L.times-assoc R (𝟙 ⊕ 𝟙) (pow R (𝟙 ⊕ 𝟙) d) k;
+            factor = ap (λ (x : F). x ⊗ k) (pow-suc R (𝟙 ⊕ 𝟙) d) ∙ L.times_assoc R (𝟙 ⊕ 𝟙) (pow R (𝟙 ⊕ 𝟙) d) k;
             left = halving-sound d (c / 2) e (s + s) half step' (omega arith);
             right = subst (λ (y : F). Sound R (halving R ψ t n last d (c / 2 + t)) h (λ x. pow R x h ≡ y) (pow R (𝟙 ⊕ 𝟙) d ⊗ k)) (pow-plus (c / 2))
                 (halving-sound d (c / 2 + t) (e + s) (s + s) (ap₂ ◌+◌ half (sym step) ∙ sym (add-mul e s h)) step' (omega arith));
@@ -194,38 +194,38 @@ module _ {F : Type 0} (R : CommRing F) (ψ : F) where
 
     tree-sound : Sound R tree (suc p) (Root R (suc p) (negacyclic R)) (pow R (𝟙 ⊕ 𝟙) d ⊗ 𝟙)
     tree-sound =
-        T.sound-under R tree (suc p) (λ x. pow R x (suc p) ≡ pow R ψ (2 ^ d)) (Root R (suc p) (negacyclic R)) (pow R (𝟙 ⊕ 𝟙) d ⊗ 𝟙)
+        T.sound_under R tree (suc p) (λ x. pow R x (suc p) ≡ pow R ψ (2 ^ d)) (Root R (suc p) (negacyclic R)) (pow R (𝟙 ⊕ 𝟙) d ⊗ 𝟙)
         (λ x e. E.value-constant R x (neg 𝟙) ∙ sym root ∙ sym e)
         (subst (λ (n : ℕ). Sound R tree n (λ x. pow R x n ≡ pow R ψ (2 ^ d)) (pow R (𝟙 ⊕ 𝟙) d ⊗ 𝟙)) (omega (arith, size))
         (halving-sound (2 ^ d) root 1 (point R ψ) 𝟙 (λ c e h l. point-sound c) d (2 ^ d) 1 2 (omega arith) (omega arith) (omega arith)))
 
     -- The record holds proofs, so it stands here; `negacyclic-tree` says what its tree is.
-    pub negacyclic-transform : Transform R p (negacyclic R)
-    negacyclic-transform = record {
+    pub negacyclic_transform : Transform R p (negacyclic R)
+    negacyclic_transform = record {
       fits = suc-le-suc zero-le;
       tree = tree;
       factor = pow R (𝟙 ⊕ 𝟙) d ⊗ 𝟙;
       sound = tree-sound;
       unfactor = u;
-      unfactor-is = ap (λ (x : F). u ⊗ x) (L.times-one R (pow R (𝟙 ⊕ 𝟙) d)) ∙ u-is;
+      unfactor_is = ap (λ (x : F). u ⊗ x) (L.times-one R (pow R (𝟙 ⊕ 𝟙) d)) ∙ u-is;
     }
 
-    pub negacyclic-tree : negacyclic-transform.tree ≡ halving R ψ (2 ^ d) 1 (point R ψ) d (2 ^ d)
-    unfolding negacyclic-transform
+    pub negacyclic-tree : negacyclic_transform.tree ≡ halving R ψ (2 ^ d) 1 (point R ψ) d (2 ^ d)
+    unfolding negacyclic_transform
     negacyclic-tree = refl
 
-    pub negacyclic-unfactor : negacyclic-transform.unfactor ≡ u
-    unfolding negacyclic-transform
+    pub negacyclic-unfactor : negacyclic_transform.unfactor ≡ u
+    unfolding negacyclic_transform
     negacyclic-unfactor = refl
 
     -- entry k of the transform is the value at ψ^(2 j + 1), where j is k with its bits reversed
-    pub negacyclic-entry : (a : List F) → length a ≡ suc p → (k : ℕ) → k < suc p
-        → get_or (forward R negacyclic-transform a) k 𝟘 ≡ value R (pow R ψ (1 + 2 * reversed d k)) a
-    negacyclic-entry a h k l =
+    pub negacyclic_entry : (a : List F) → length a ≡ suc p → (k : ℕ) → k < suc p
+        → get_or (forward R negacyclic_transform a) k 𝟘 ≡ value R (pow R ψ (1 + 2 * reversed d k)) a
+    negacyclic_entry a h k l =
         let few : k < 2 ^ d = omega arith in
-        let all : points R negacyclic-transform.tree ≡ map (pow R ψ) (exponents (2 ^ d) d (2 ^ d)) =
+        let all : points R negacyclic_transform.tree ≡ map (pow R ψ) (exponents (2 ^ d) d (2 ^ d)) =
         ap (points R) negacyclic-tree ∙ points-halving (2 ^ d) d (2 ^ d) in
-        ap (λ (v : List F). get_or v k 𝟘) (T.forward-values R negacyclic-transform a h ∙ ap (λ (v : List F). values R v a) all)
+        ap (λ (v : List F). get_or v k 𝟘) (T.forward-values R negacyclic_transform a h ∙ ap (λ (v : List F). values R v a) all)
         ∙ get_d_map (λ x. value R x a) (map (pow R ψ) (exponents (2 ^ d) d (2 ^ d))) k 𝟘 𝟘 (rw (length-map, length-exponents) few)
         ∙ ap (λ (x : F). value R x a) (get_d_map (pow R ψ) (exponents (2 ^ d) d (2 ^ d)) k 0 𝟘 (rw length-exponents few)
-        ∙ ap (pow R ψ) (exponents-entry (2 ^ d) d (2 ^ d) 1 2 k (omega arith) (omega arith) few))
+        ∙ ap (pow R ψ) (exponents_entry (2 ^ d) d (2 ^ d) 1 2 k (omega arith) (omega arith) few))

@@ -11,8 +11,8 @@ use lib.Dec.{T, eqb, eqb_refl, T_not}
 use Rattle.lists.proofs.Finite.{all_below, at_each}
 use Rattle.algebra.specs.Ring.{CommRing, IsField, IsUnit}
 use Rattle.algebra.specs.Residues.{Residue, residue, Prime}
-use Rattle.algebra.specs.Numbers.{mulMod}
-use Rattle.algebra.proofs.Residues.{ℤ/, mod-mul-left, mod-mul-right, residue-of-value, of-mod, of_one, of-mul, zero-iff}
+use Rattle.algebra.specs.Numbers.{mul_mod}
+use Rattle.algebra.proofs.Residues.{ℤ/, mod-mul-left, mod-mul-right, residue_of-value, of-mod, of_one, of-mul, zero_iff}
 
 -- ---- primes by trial division
 
@@ -21,8 +21,8 @@ abbrev pub undivided : ℕ → ℕ → Bool
 undivided q x = not (eqb (q % (x + 2)) 0)
 
 -- It is enough to try the numbers from 2 to b + 1 where q < (b + 2)²: of two factors one is that small.
-pub prime-by-trial : (q b : ℕ) → 1 < q → q < (b + 2) * (b + 2) → T (all_below b (undivided q)) → Prime q
-prime-by-trial q b above enough test = record { above-one = above; no-divisor = none }
+pub prime_by-trial : (q b : ℕ) → 1 < q → q < (b + 2) * (b + 2) → T (all_below b (undivided q)) → Prime q
+prime_by-trial q b above enough test = record { above-one = above; no_divisor = none }
   where
     small : (x : ℕ) → 1 < x → x < b + 2 → q % x ≢ 0
     small zero h l e = omega arith
@@ -58,8 +58,8 @@ prime-by-trial q b above enough test = record { above-one = above; no-divisor = 
 -- ---- inverses
 
 -- from the inverse y of q % x to that of x
-pub euclid-step : (q x y : ℕ) → 0 < x → mulMod q (q % x) y ≡ 1 → mulMod q x (mulMod q (q - q / x) y) ≡ 1
-euclid-step q x y h e =
+pub euclid_step : (q x y : ℕ) → 0 < x → mul_mod q (q % x) y ≡ 1 → mul_mod q x (mul_mod q (q - q / x) y) ≡ 1
+euclid_step q x y h e =
     mod-mul-right x ((q - q / x) * y) q
     ∙ ap (λ (n : ℕ). n % q) (sym (mul_assoc x (q - q / x) y) ∙ ap (λ (n : ℕ). n * y) multiple ∙ add-mul (q * (x - 1)) (q % x) y
     ∙ ap (λ (n : ℕ). n + q % x * y) (mul_assoc q (x - 1) y))
@@ -73,7 +73,7 @@ euclid-step q x y h e =
 
 module _ (q : ℕ) (prime : Prime q) where
   -- the numbers fall from x to q % x, so `fuel` steps suffice
-  inverse-below : (fuel x : ℕ) → x ≤ fuel → 0 < x → x < q → (y : ℕ) × (mulMod q x y ≡ 1)
+  inverse-below : (fuel x : ℕ) → x ≤ fuel → 0 < x → x < q → (y : ℕ) × (mul_mod q x y ≡ 1)
   inverse-below zero x h g l = absurd (omega arith)
   inverse-below (suc f) zero h g l = absurd (omega arith)
   inverse-below (suc f) (suc zero) h g l = (1, mod-eq_of_lt prime.above-one)
@@ -86,16 +86,16 @@ module _ (q : ℕ) (prime : Prime q) where
       small = mod-lt q {m = x} (suc-le-suc zero-le)
 
       some : q % x ≢ 0
-      some = prime.no-divisor x (omega arith) l
+      some = prime.no_divisor x (omega arith) l
 
-      next : (y : ℕ) × (mulMod q (q % x) y ≡ 1) → (y : ℕ) × (mulMod q x y ≡ 1)
-      next (y, e) = (mulMod q (q - q / x) y, euclid-step q x y g e)
+      next : (y : ℕ) × (mul_mod q (q % x) y ≡ 1) → (y : ℕ) × (mul_mod q x y ≡ 1)
+      next (y, e) = (mul_mod q (q - q / x) y, euclid_step q x y g e)
 
   -- a number that q does not divide has an inverse modulo q
-  pub inverse-modulo : (x : ℕ) → x % q ≢ 0 → (y : ℕ) × (mulMod q x y ≡ 1)
+  pub inverse-modulo : (x : ℕ) → x % q ≢ 0 → (y : ℕ) × (mul_mod q x y ≡ 1)
   inverse-modulo x h = to-x (inverse-below (x % q) (x % q) (le_refl _) (omega arith) (mod-lt x (omega (arith, prime.above-one))))
     where
-      to-x : (y : ℕ) × (mulMod q (x % q) y ≡ 1) → (y : ℕ) × (mulMod q x y ≡ 1)
+      to-x : (y : ℕ) × (mul_mod q (x % q) y ≡ 1) → (y : ℕ) × (mul_mod q x y ≡ 1)
       to-x (y, e) = (y, sym (mod-mul-left x y q) ∙ e)
 
   module _ (pos : 0 < q) where
@@ -108,13 +108,13 @@ module _ (q : ℕ) (prime : Prime q) where
     open Z use {◌⊗◌, 𝟘, 𝟙}
 
     inverse : (x : Residue q) → ¬ (x ≡ 𝟘) → IsUnit Z x
-    inverse x h = subst (IsUnit Z) (residue-of-value q pos x) (unit (inverse-modulo x.0 (λ e. h (sym (residue-of-value q pos x) ∙ (zero-iff q pos x.0).1 e))))
+    inverse x h = subst (IsUnit Z) (residue_of-value q pos x) (unit (inverse-modulo x.0 (λ e. h (sym (residue_of-value q pos x) ∙ (zero_iff q pos x.0).1 e))))
       where
-        unit : (y : ℕ) × (mulMod q x.0 y ≡ 1) → IsUnit Z (z x.0)
+        unit : (y : ℕ) × (mul_mod q x.0 y ≡ 1) → IsUnit Z (z x.0)
         unit (y, e) = (z y, sym (of-mul q pos x.0 y) ∙ sym (of-mod q pos (x.0 * y)) ∙ ap z e ∙ of_one q pos)
 
     one_not_zero : ¬ (𝟙 ≡ 𝟘)
-    one_not_zero e = omega (arith, sym (mod-eq_of_lt prime.above-one) ∙ (zero-iff q pos 1).0 (of_one q pos ∙ e))
+    one_not_zero e = omega (arith, sym (mod-eq_of_lt prime.above-one) ∙ (zero_iff q pos 1).0 (of_one q pos ∙ e))
 
     pub prime-field : IsField Z
     prime-field = record { one_not_zero = one_not_zero; inverse = inverse }

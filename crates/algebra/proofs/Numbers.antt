@@ -7,13 +7,13 @@ use native.Mathlib.Nat.{mod-eq_of_lt, ℕ_set}
 use native.Mathlib.Omega.{arith}
 use lib.ListN.{length, get_or, length-map, get_or-map}
 use Rattle.lists.specs.Table.{table}
-use Rattle.lists.proofs.Tables.{length-table, getD-table}
+use Rattle.lists.proofs.Tables.{length-table, get_or-table}
 use Rattle.lists.proofs.Maps.{cons, map-map, map-id}
 use Rattle.algebra.specs.Ring.{CommRing, pow, sum}
 use Rattle.algebra.specs.Residues.{Residue, residue, residues}
 use Rattle.algebra.specs.Polynomials.{coefficient}
 use Rattle.algebra.specs.Evaluation.{value}
-use Rattle.algebra.specs.Numbers.{addMod, subMod, mulMod, powMod, Below, Element, sumBelow, valueMod}
+use Rattle.algebra.specs.Numbers.{add_mod, sub_mod, mul_mod, pow_mod, Below, Element, sum_below, value_mod}
 use Rattle.algebra.proofs.Residues as Z
 use Rattle.algebra.proofs.Residues.{ℤ/, of-mod, of-add, of-mul, of-neg, of_pow, of_zero}
 use Rattle.algebra.proofs.Evaluation as E
@@ -37,16 +37,16 @@ pub below-map : (q : ℕ) (f : ℕ → ℕ) → ((x : ℕ) → f x < q) → (a :
 below-map q f h [] = tt
 below-map q f h (x ∷ a) = (h x, below-map q f h a)
 
-pub below-zipWith : (q : ℕ) (f : ℕ → ℕ → ℕ) → ((x y : ℕ) → f x y < q) → (a b : List ℕ) → Below q (zip_with f a b)
+pub below-zip_with : (q : ℕ) (f : ℕ → ℕ → ℕ) → ((x y : ℕ) → f x y < q) → (a b : List ℕ) → Below q (zip_with f a b)
 unfolding zip_with
-below-zipWith q f h [] b = tt
-below-zipWith q f h (x ∷ a) [] = tt
-below-zipWith q f h (x ∷ a) (y ∷ b) = (h x y, below-zipWith q f h a b)
+below-zip_with q f h [] b = tt
+below-zip_with q f h (x ∷ a) [] = tt
+below-zip_with q f h (x ∷ a) (y ∷ b) = (h x y, below-zip_with q f h a b)
 
 pub element-table : (q n : ℕ) (f : ℕ → ℕ) → ((k : ℕ) → f k < q) → Element q n (table n f)
 element-table q n f h = record {
   size = length-table n f;
-  below = below_by q (table n f) (λ k g. let l : k < n = omega (arith, length-table n f) in rw (getD-table n f k 0 l) (h k));
+  below = below_by q (table n f) (λ k g. let l : k < n = omega (arith, length-table n f) in rw (get_or-table n f k 0 l) (h k));
 }
 
 below-prop : (q : ℕ) (l : List ℕ) → IsProp (Below q l)
@@ -72,38 +72,38 @@ module _ (q : ℕ) (pos : 0 < q) where
   infixl 70 ◌⊗◌
   open R use {◌⊕◌, ◌⊗◌, neg, 𝟘, 𝟙}
 
-  pub of-addMod : (x y : ℕ) → z (addMod q x y) ≡ z x ⊕ z y
-  of-addMod x y = of-mod q pos (x + y) ∙ of-add q pos x y
+  pub of-add_mod : (x y : ℕ) → z (add_mod q x y) ≡ z x ⊕ z y
+  of-add_mod x y = of-mod q pos (x + y) ∙ of-add q pos x y
 
-  pub of-mulMod : (x y : ℕ) → z (mulMod q x y) ≡ z x ⊗ z y
-  of-mulMod x y = of-mod q pos (x * y) ∙ of-mul q pos x y
+  pub of-mul_mod : (x y : ℕ) → z (mul_mod q x y) ≡ z x ⊗ z y
+  of-mul_mod x y = of-mod q pos (x * y) ∙ of-mul q pos x y
 
-  pub of-subMod : (x y : ℕ) → z (subMod q x y) ≡ z x ⊕ neg (z y)
-  of-subMod x y = of-mod q pos (x + (q - y % q)) ∙ of-add q pos x (q - y % q) ∙ ap (λ (t : Residue q). z x ⊕ t) (of-neg q pos y)
+  pub of-sub_mod : (x y : ℕ) → z (sub_mod q x y) ≡ z x ⊕ neg (z y)
+  of-sub_mod x y = of-mod q pos (x + (q - y % q)) ∙ of-add q pos x (q - y % q) ∙ ap (λ (t : Residue q). z x ⊕ t) (of-neg q pos y)
 
-  pub of-powMod : (x n : ℕ) → z (powMod q x n) ≡ pow R (z x) n
-  of-powMod x n = of-mod q pos (x ^ n) ∙ of_pow q pos x n
+  pub of-pow_mod : (x n : ℕ) → z (pow_mod q x n) ≡ pow R (z x) n
+  of-pow_mod x n = of-mod q pos (x ^ n) ∙ of_pow q pos x n
 
-  pub of-valueMod : (x : ℕ) (a : List ℕ) → z (valueMod q x a) ≡ value R (z x) (zs a)
-  unfolding valueMod
-  of-valueMod x [] = of_zero q pos ∙ sym (E.value-nil R (z x))
-  of-valueMod x (c ∷ a) =
-      of-addMod c (mulMod q x (valueMod q x a))
-      ∙ ap (λ (t : Residue q). z c ⊕ t) (of-mulMod x (valueMod q x a) ∙ ap (λ (t : Residue q). z x ⊗ t) (of-valueMod x a))
+  pub of-value_mod : (x : ℕ) (a : List ℕ) → z (value_mod q x a) ≡ value R (z x) (zs a)
+  unfolding value_mod
+  of-value_mod x [] = of_zero q pos ∙ sym (E.value-nil R (z x))
+  of-value_mod x (c ∷ a) =
+      of-add_mod c (mul_mod q x (value_mod q x a))
+      ∙ ap (λ (t : Residue q). z c ⊕ t) (of-mul_mod x (value_mod q x a) ∙ ap (λ (t : Residue q). z x ⊗ t) (of-value_mod x a))
       ∙ sym (E.value-cons R (z x) (z c) (zs a))
 
-  pub of-sumBelow : (n : ℕ) (f : ℕ → ℕ) → z (sumBelow n f) ≡ sum R n (λ i. z (f i))
-  unfolding sumBelow sum
-  of-sumBelow zero f = of_zero q pos
-  of-sumBelow (suc n) f = of-add q pos (f zero) (sumBelow n (λ i. f (suc i))) ∙ ap (λ (t : Residue q). z (f zero) ⊕ t) (of-sumBelow n (λ i. f (suc i)))
+  pub of-sum_below : (n : ℕ) (f : ℕ → ℕ) → z (sum_below n f) ≡ sum R n (λ i. z (f i))
+  unfolding sum_below sum
+  of-sum_below zero f = of_zero q pos
+  of-sum_below (suc n) f = of-add q pos (f zero) (sum_below n (λ i. f (suc i))) ∙ ap (λ (t : Residue q). z (f zero) ⊕ t) (of-sum_below n (λ i. f (suc i)))
 
   -- the coefficients of a list's residues
   pub of-coefficient : (l : List ℕ) (k : ℕ) → coefficient R (zs l) k ≡ z (get_or l k 0)
   of-coefficient l k = ap (get_or (zs l) k) (sym (of_zero q pos)) ∙ get_or-map z l k 0
 
   -- numbers below q are known by their residues
-  pub residues-injective : (a b : List ℕ) → Below q a → Below q b → zs a ≡ zs b → a ≡ b
-  residues-injective a b ha hb e = sym (back a ha) ∙ ap (map (λ (x : Residue q). x.0)) e ∙ back b hb
+  pub residues_injective : (a b : List ℕ) → Below q a → Below q b → zs a ≡ zs b → a ≡ b
+  residues_injective a b ha hb e = sym (back a ha) ∙ ap (map (λ (x : Residue q). x.0)) e ∙ back b hb
     where
       back : (l : List ℕ) → Below q l → map (λ (x : Residue q). x.0) (zs l) ≡ l
       back [] h = refl
@@ -124,4 +124,4 @@ module _ (q : ℕ) (pos : 0 < q) where
 
   pub residues-representatives : (l : List (Residue q)) → zs (representatives l) ≡ l
   unfolding representatives
-  residues-representatives l = map-map (λ (x : Residue q). x.0) z l ∙ map-id _ (Z.residue-of-value q pos) l
+  residues-representatives l = map-map (λ (x : Residue q). x.0) z l ∙ map-id _ (Z.residue_of-value q pos) l

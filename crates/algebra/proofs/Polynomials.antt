@@ -11,7 +11,7 @@ use native.Mathlib.Omega.{arith}
 use lib.Dec.{T, ltb, ltb→lt, nltb→le, eqb, eqb→eq, eqb_refl, not_T}
 use lib.ListN.{length, get_or, get_or-eq_default}
 use Rattle.lists.specs.Table.{table}
-use Rattle.lists.proofs.Tables.{length-table, getD-table, table-getD}
+use Rattle.lists.proofs.Tables.{length-table, get_or-table, table-get_or}
 use Rattle.algebra.specs.Ring.{CommRing, sum}
 use Rattle.algebra.specs.Polynomials.{coefficient, padded, Polynomial}
 use Rattle.algebra.specs.Polynomials as P
@@ -36,16 +36,16 @@ module _ {F : Type 0} (R : CommRing F) where
 
   -- ---- sequences are a module over R
 
-  ⊞-assoc : (u v w : ℕ → F) → u ⊞ v ⊞ w ≡ u ⊞ (v ⊞ w)
+  ⊞_assoc : (u v w : ℕ → F) → u ⊞ v ⊞ w ≡ u ⊞ (v ⊞ w)
   unfolding P.◌⊞◌
-  ⊞-assoc u v w = fun_ext λ k. simp ring
+  ⊞_assoc u v w = fun_ext λ k. simp ring
 
-  ⊞-comm : (u v : ℕ → F) → u ⊞ v ≡ v ⊞ u
+  ⊞_comm : (u v : ℕ → F) → u ⊞ v ≡ v ⊞ u
   unfolding P.◌⊞◌
-  ⊞-comm u v = fun_ext λ k. simp ring
+  ⊞_comm u v = fun_ext λ k. simp ring
 
-  ⊞-left-comm : (u v w : ℕ → F) → u ⊞ (v ⊞ w) ≡ v ⊞ (u ⊞ w)
-  ⊞-left-comm u v w = simp (← ⊞-assoc, ⊞-comm u v)
+  ⊞-left_comm : (u v w : ℕ → F) → u ⊞ (v ⊞ w) ≡ v ⊞ (u ⊞ w)
+  ⊞-left_comm u v w = simp (← ⊞_assoc, ⊞_comm u v)
 
   ⊞-zero : (u : ℕ → F) → u ⊞ 𝟎 ≡ u
   unfolding P.◌⊞◌ P.𝟎
@@ -67,11 +67,11 @@ module _ {F : Type 0} (R : CommRing F) where
   unfolding P.◌·◌ P.𝟎
   zero-· u = fun_ext λ k. simp ring
 
-  ·-comm : (x y : F) (u : ℕ → F) → x · (y · u) ≡ y · (x · u)
+  ·_comm : (x y : F) (u : ℕ → F) → x · (y · u) ≡ y · (x · u)
   unfolding P.◌·◌
-  ·-comm x y u = fun_ext λ k. simp ring
+  ·_comm x y u = fun_ext λ k. simp ring
 
-  ruleset sequences = (⊞-assoc, ⊞-comm, ⊞-left-comm, ⊞-zero, ·-⊞, ·-zero)
+  ruleset sequences = (⊞_assoc, ⊞_comm, ⊞-left_comm, ⊞-zero, ·-⊞, ·-zero)
 
   -- ---- the action of polynomials through a linear operator T: polynomials commute with T and with each other
 
@@ -87,21 +87,21 @@ module _ {F : Type 0} (R : CommRing F) where
     act-· : (a : List F) (x : F) (u : ℕ → F) → P.act R T a (x · u) ≡ x · P.act R T a u
     unfolding P.act
     act-· [] x u = sym (·-zero x)
-    act-· (y ∷ a) x u = rw (act-· a x u) (simp (sequences, T-·, ·-comm))
+    act-· (y ∷ a) x u = rw (act-· a x u) (simp (sequences, T-·, ·_comm))
 
     act-T : (a : List F) (u : ℕ → F) → P.act R T a (T u) ≡ T (P.act R T a u)
     unfolding P.act
     act-T [] u = sym T-zero
     act-T (x ∷ a) u = rw (act-T a u) (simp (T-⊞, T-·))
 
-    act-comm : (a b : List F) (u : ℕ → F) → P.act R T a (P.act R T b u) ≡ P.act R T b (P.act R T a u)
+    act_comm : (a b : List F) (u : ℕ → F) → P.act R T a (P.act R T b u) ≡ P.act R T b (P.act R T a u)
     unfolding P.act
-    act-comm [] b u = zero b
+    act_comm [] b u = zero b
       where
         zero : (b : List F) → 𝟎 ≡ P.act R T b 𝟎
         zero [] = refl
         zero (x ∷ b) = sym (rw (← zero b) (simp (sequences, T-zero)))
-    act-comm (x ∷ a) b u = rw (act-comm a b u) (simp (act-⊞, act-·, act-T))
+    act_comm (x ∷ a) b u = rw (act_comm a b u) (simp (act-⊞, act-·, act-T))
 
   -- ---- sequences that vanish from n on are the lists of n coefficients
 
@@ -115,7 +115,7 @@ module _ {F : Type 0} (R : CommRing F) where
   coefficient-table n u f = fun_ext λ k. at k (dec_lt k n)
     where
       at : (k : ℕ) → Dec (k < n) → get_or (table n u) k 𝟘 ≡ u k
-      at k (yes h) = getD-table n u k 𝟘 h
+      at k (yes h) = get_or-table n u k 𝟘 h
       at k (no h) = get_or-eq_default (table n u) 𝟘 (omega (arith, length-table n u)) ∙ sym (f k (omega arith))
 
   cond-plus : (b : Bool) (x y : F) → cond b (x ⊕ y) 𝟘 ≡ cond b x 𝟘 ⊕ cond b y 𝟘
@@ -128,7 +128,7 @@ module _ {F : Type 0} (R : CommRing F) where
 
   module _ (p : ℕ) (r : List F) where
     abbrev X· : (ℕ → F) → ℕ → F
-    X· = P.timesX R p r
+    X· = P.times_x R p r
 
     abbrev act : List F → (ℕ → F) → ℕ → F
     act = P.act R X·
@@ -138,7 +138,7 @@ module _ {F : Type 0} (R : CommRing F) where
     ◌⊠◌ = P.product R p r
 
     X·-⊞ : (u v : ℕ → F) → X· (u ⊞ v) ≡ X· u ⊞ X· v
-    unfolding P.timesX P.◌⊞◌ P.shifted
+    unfolding P.times_x P.◌⊞◌ P.shifted
     X·-⊞ u v = fun_ext at
       where
         at : (k : ℕ)
@@ -147,7 +147,7 @@ module _ {F : Type 0} (R : CommRing F) where
         at (suc k) = simp (cond-plus, ring)
 
     X·-· : (x : F) (u : ℕ → F) → X· (x · u) ≡ x · X· u
-    unfolding P.timesX P.◌·◌ P.shifted
+    unfolding P.times_x P.◌·◌ P.shifted
     X·-· x u = fun_ext at
       where
         at : (k : ℕ) → P.shifted R p r (λ i. x ⊗ u i) k ⊕ (x ⊗ u p) ⊗ get_or r k 𝟘 ≡ x ⊗ (P.shifted R p r u k ⊕ u p ⊗ get_or r k 𝟘)
@@ -159,23 +159,23 @@ module _ {F : Type 0} (R : CommRing F) where
     length-product a b = length-table (suc p) (act a (coefficient R b))
 
     -- the product is the sum of the a_i X^i b
-    pub act-sum : (a : List F) (u : ℕ → F) (k : ℕ) → act a u k ≡ sum R (length a) (λ i. coefficient R a i ⊗ P.timesPower R p r i u k)
-    unfolding sum P.timesPower P.act P.◌⊞◌ P.◌·◌ P.𝟎
+    pub act-sum : (a : List F) (u : ℕ → F) (k : ℕ) → act a u k ≡ sum R (length a) (λ i. coefficient R a i ⊗ P.times_power R p r i u k)
+    unfolding sum P.times_power P.act P.◌⊞◌ P.◌·◌ P.𝟎
     act-sum [] u k = refl
     act-sum (x ∷ a) u k = ap (λ (y : F). x ⊗ u k ⊕ y) (
         ap (λ (v : ℕ → F). v k) (sym (act-T X· X·-⊞ X·-· a u)) ∙ act-sum a (X· u) k
         ∙ sum_same R (length a) _ _ (λ i h. ap (λ (v : ℕ → F). coefficient R a i ⊗ v k) (inner i)))
       where
-        inner : (i : ℕ) → P.timesPower R p r i (X· u) ≡ X· (P.timesPower R p r i u)
+        inner : (i : ℕ) → P.times_power R p r i (X· u) ≡ X· (P.times_power R p r i u)
         inner zero = refl
         inner (suc i) = ap X· (inner i)
 
     -- times X^i
     pub act-monomial : (m : List F) (i : ℕ) → length m ≡ suc p → i ≤ p → ((j : ℕ) → j ≤ p → coefficient R m j ≡ cond (eqb j i) 𝟙 𝟘)
-        → (u : ℕ → F) (k : ℕ) → act m u k ≡ P.timesPower R p r i u k
+        → (u : ℕ → F) (k : ℕ) → act m u k ≡ P.times_power R p r i u k
     act-monomial m i hm hi e u k =
-        act-sum m u k ∙ ap (λ (n : ℕ). sum R n (λ j. coefficient R m j ⊗ P.timesPower R p r j u k)) hm
-        ∙ L.sum-single R (suc p) i _ (suc-le-suc hi) rest ∙ ap (λ (x : F). x ⊗ P.timesPower R p r i u k) (e i hi ∙ this (eqb i i) (eqb_refl i)) ∙ L.one-times R _
+        act-sum m u k ∙ ap (λ (n : ℕ). sum R n (λ j. coefficient R m j ⊗ P.times_power R p r j u k)) hm
+        ∙ L.sum-single R (suc p) i _ (suc-le-suc hi) rest ∙ ap (λ (x : F). x ⊗ P.times_power R p r i u k) (e i hi ∙ this (eqb i i) (eqb_refl i)) ∙ L.one-times R _
       where
         other : (b : Bool) → T (not b) → cond b 𝟙 𝟘 ≡ 𝟘
         other true t = absurd t
@@ -185,15 +185,15 @@ module _ {F : Type 0} (R : CommRing F) where
         this true t = refl
         this false t = absurd t
 
-        rest : (j : ℕ) → j < suc p → j ≢ i → coefficient R m j ⊗ P.timesPower R p r j u k ≡ 𝟘
+        rest : (j : ℕ) → j < suc p → j ≢ i → coefficient R m j ⊗ P.times_power R p r j u k ≡ 𝟘
         rest j l d =
-            ap (λ (x : F). x ⊗ P.timesPower R p r j u k) (e j (le_of_suc-le-suc l) ∙ other (eqb j i) (not_T (eqb j i) (λ t. d (eqb→eq j i t))))
+            ap (λ (x : F). x ⊗ P.times_power R p r j u k) (e j (le_of_suc-le-suc l) ∙ other (eqb j i) (not_T (eqb j i) (λ t. d (eqb→eq j i t))))
             ∙ L.zero-times R _
 
     -- where the rule has at most n coefficients
     module _ (fits : length r ≤ suc p) where
       X·-vanishes : (u : ℕ → F) → Vanishes (suc p) (X· u)
-      unfolding P.timesX P.shifted
+      unfolding P.times_x P.shifted
       X·-vanishes u zero h = absurd (not-suc-le-zero h)
       X·-vanishes u (suc k) h = go (ltb k p) (get_or r (suc k) 𝟘) (λ t. omega (arith, ltb→lt k p t)) (get_or-eq_default r 𝟘 {n = suc k} (omega arith))
         where
@@ -202,16 +202,16 @@ module _ {F : Type 0} (R : CommRing F) where
           go false c f e = rw e (simp ring)
 
       -- below the top, times X only moves the coefficients
-      X·-low : (u : ℕ → F) → Vanishes p u → (k : ℕ) → X· u (suc k) ≡ u k
-      unfolding P.timesX P.shifted
-      X·-low u f k = go (ltb k p) (u p) (f p (le_refl p)) (λ t. f k (nltb→le k p t))
+      X·_low : (u : ℕ → F) → Vanishes p u → (k : ℕ) → X· u (suc k) ≡ u k
+      unfolding P.times_x P.shifted
+      X·_low u f k = go (ltb k p) (u p) (f p (le_refl p)) (λ t. f k (nltb→le k p t))
         where
           go : (b : Bool) (c : F) → c ≡ 𝟘 → (T (not b) → u k ≡ 𝟘) → cond b (u k) 𝟘 ⊕ c ⊗ get_or r (suc k) 𝟘 ≡ u k
           go true c e f = rw e (simp ring)
           go false c e f = rw (e, f tt) (simp ring)
 
       X·-low₀ : (u : ℕ → F) → Vanishes p u → X· u zero ≡ 𝟘
-      unfolding P.timesX P.shifted
+      unfolding P.times_x P.shifted
       X·-low₀ u f = go (u p) (f p (le_refl p))
         where
           go : (c : F) → c ≡ 𝟘 → 𝟘 ⊕ c ⊗ get_or r zero 𝟘 ≡ 𝟘
@@ -225,7 +225,7 @@ module _ {F : Type 0} (R : CommRing F) where
         where
           at : (k : ℕ) → x ⊗ get_or (𝟙 ∷ []) k 𝟘 ⊕ X· (coefficient R l) k ≡ get_or (x ∷ l) k 𝟘
           at zero = rw (X·-low₀ (coefficient R l) (coefficient-vanishes p l (le_of_suc-le-suc h))) (simp ring)
-          at (suc k) = rw (X·-low (coefficient R l) (coefficient-vanishes p l (le_of_suc-le-suc h)) k) (simp ring)
+          at (suc k) = rw (X·_low (coefficient R l) (coefficient-vanishes p l (le_of_suc-le-suc h)) k) (simp ring)
 
       act-vanishes : (a : List F) (u : ℕ → F) → Vanishes (suc p) u → Vanishes (suc p) (act a u)
       unfolding P.act P.◌⊞◌ P.◌·◌ P.𝟎
@@ -241,29 +241,29 @@ module _ {F : Type 0} (R : CommRing F) where
           coefficient-table (suc p) (act a (coefficient R b)) (act-vanishes a (coefficient R b) (coefficient-vanishes (suc p) b h))
 
       act-swap : (a b : List F) → length a ≤ suc p → length b ≤ suc p → act a (coefficient R b) ≡ act b (coefficient R a)
-      act-swap a b ha hb = rw (← act-one b hb, ← act-one a ha) (act-comm X· X·-⊞ X·-· a b (coefficient R (𝟙 ∷ [])))
+      act-swap a b ha hb = rw (← act-one b hb, ← act-one a ha) (act_comm X· X·-⊞ X·-· a b (coefficient R (𝟙 ∷ [])))
 
-      pub product-comm : (a b : List F) → length a ≤ suc p → length b ≤ suc p → a ⊠ b ≡ b ⊠ a
+      pub product_comm : (a b : List F) → length a ≤ suc p → length b ≤ suc p → a ⊠ b ≡ b ⊠ a
       unfolding P.product
-      product-comm a b ha hb = ap (table (suc p)) (act-swap a b ha hb)
+      product_comm a b ha hb = ap (table (suc p)) (act-swap a b ha hb)
 
-      pub product-assoc : (a b c : List F) → length a ≤ suc p → length b ≤ suc p → length c ≤ suc p → a ⊠ b ⊠ c ≡ a ⊠ (b ⊠ c)
+      pub product_assoc : (a b c : List F) → length a ≤ suc p → length b ≤ suc p → length c ≤ suc p → a ⊠ b ⊠ c ≡ a ⊠ (b ⊠ c)
       unfolding P.product
-      product-assoc a b c ha hb hc = ap (table (suc p)) (
+      product_assoc a b c ha hb hc = ap (table (suc p)) (
           act-swap (a ⊠ b) c (le_of_eq (length-product a b)) hc
           ∙ ap (act c) (coefficient-product a b hb)
-          ∙ act-comm X· X·-⊞ X·-· c a (coefficient R b)
+          ∙ act_comm X· X·-⊞ X·-· c a (coefficient R b)
           ∙ ap (act a) (act-swap c b hc hb ∙ sym (coefficient-product b c hc)))
 
       pub product-one : (a : List F) → length a ≡ suc p → a ⊠ (𝟙 ∷ []) ≡ a
       unfolding P.product
-      product-one a h = ap (table (suc p)) (act-one a (le_of_eq h)) ∙ table-getD (suc p) a 𝟘 h
+      product-one a h = ap (table (suc p)) (act-one a (le_of_eq h)) ∙ table-get_or (suc p) a 𝟘 h
 
       -- times a constant
       pub product-constant : (c : F) (a : List F) → length a ≡ suc p → padded R (suc p) (c ∷ []) ⊠ a ≡ table (suc p) (λ k. c ⊗ coefficient R a k)
       unfolding P.product P.◌·◌
       product-constant c a h =
-          product-comm (padded R (suc p) (c ∷ [])) a (le_of_eq (length-table (suc p) _)) (le_of_eq h)
+          product_comm (padded R (suc p) (c ∷ [])) a (le_of_eq (length-table (suc p) _)) (le_of_eq h)
           ∙ ap (λ u. table (suc p) (act a u)) (coefficient-table (suc p) _ (coefficient-vanishes (suc p) (c ∷ []) (suc-le-suc zero-le)) ∙ multiple)
           ∙ ap (table (suc p)) (act-· X· X·-⊞ X·-· a c (coefficient R (𝟙 ∷ [])) ∙ ap (λ u. c · u) (act-one a (le_of_eq h)))
         where
@@ -287,14 +287,14 @@ module _ {F : Type 0} (R : CommRing F) where
 
       make-coefficients : (x : Poly) → make (coefficient R x.0) ≡ x
       unfolding make
-      make-coefficients x = polynomial-same _ _ (table-getD (suc p) x.0 𝟘 x.1)
+      make-coefficients x = polynomial-same _ _ (table-get_or (suc p) x.0 𝟘 x.1)
 
       vanishes : (x : Poly) → Vanishes (suc p) (coefficient R x.0)
       vanishes x = coefficient-vanishes (suc p) x.0 (le_of_eq x.1)
 
-      coefficient-make : (u : ℕ → F) → Vanishes (suc p) u → coefficient R (make u).0 ≡ u
+      coefficient_make : (u : ℕ → F) → Vanishes (suc p) u → coefficient R (make u).0 ≡ u
       unfolding make
-      coefficient-make u f = coefficient-table (suc p) u f
+      coefficient_make u f = coefficient-table (suc p) u f
 
       plus : Poly → Poly → Poly
       plus x y = make (coefficient R x.0 ⊞ coefficient R y.0)
@@ -307,14 +307,14 @@ module _ {F : Type 0} (R : CommRing F) where
 
       coefficients-plus : (x y : Poly) → coefficient R (plus x y).0 ≡ coefficient R x.0 ⊞ coefficient R y.0
       unfolding plus P.◌⊞◌
-      coefficients-plus x y = coefficient-make _ (λ k h. go _ _ (vanishes x k h) (vanishes y k h))
+      coefficients-plus x y = coefficient_make _ (λ k h. go _ _ (vanishes x k h) (vanishes y k h))
         where
           go : (y z : F) → y ≡ 𝟘 → z ≡ 𝟘 → y ⊕ z ≡ 𝟘
           go y z e e' = rw (e, e') (simp ring)
 
       coefficients-opposite : (x : Poly) → coefficient R (opposite x).0 ≡ (λ k. neg (coefficient R x.0 k))
       unfolding opposite
-      coefficients-opposite x = coefficient-make _ (λ k h. ap neg (vanishes x k h) ∙ L.neg-zero R)
+      coefficients-opposite x = coefficient_make _ (λ k h. ap neg (vanishes x k h) ∙ L.neg-zero R)
 
       times-plus : (x y z : Poly) → times x (plus y z) ≡ plus (times x y) (times x z)
       unfolding times plus make P.product
@@ -325,7 +325,7 @@ module _ {F : Type 0} (R : CommRing F) where
       times-one : (x : Poly) → times x (make (coefficient R (𝟙 ∷ []))) ≡ x
       unfolding times make P.product
       times-one x = polynomial-same _ _ (
-          ap (λ u. table (suc p) (act x.0 u)) (coefficient-make (coefficient R (𝟙 ∷ [])) (coefficient-vanishes (suc p) (𝟙 ∷ []) (suc-le-suc zero-le)))
+          ap (λ u. table (suc p) (act x.0 u)) (coefficient_make (coefficient R (𝟙 ∷ [])) (coefficient-vanishes (suc p) (𝟙 ∷ []) (suc-le-suc zero-le)))
           ∙ product-one x.0 x.1)
 
       -- It stands here and not in specs/, since the record holds the proofs of the laws; its operations are in specs/, as the
@@ -339,13 +339,13 @@ module _ {F : Type 0} (R : CommRing F) where
         𝟘 = make 𝟎;
         𝟙 = make (coefficient R (𝟙 ∷ []));
         plus_assoc =
-            λ a b c. ap make (ap (λ u. u ⊞ coefficient R c.0) (coefficients-plus a b) ∙ ⊞-assoc _ _ _
+            λ a b c. ap make (ap (λ u. u ⊞ coefficient R c.0) (coefficients-plus a b) ∙ ⊞_assoc _ _ _
             ∙ sym (ap (λ u. coefficient R a.0 ⊞ u) (coefficients-plus b c)));
-        plus_comm = λ a b. ap make (⊞-comm _ _);
-        plus-zero = λ a. ap (λ u. make (coefficient R a.0 ⊞ u)) (coefficient-make 𝟎 zero-vanishes) ∙ ap make (⊞-zero _) ∙ make-coefficients a;
+        plus_comm = λ a b. ap make (⊞_comm _ _);
+        plus-zero = λ a. ap (λ u. make (coefficient R a.0 ⊞ u)) (coefficient_make 𝟎 zero-vanishes) ∙ ap make (⊞-zero _) ∙ make-coefficients a;
         plus-neg = λ a. ap (λ u. make (coefficient R a.0 ⊞ u)) (coefficients-opposite a) ∙ ap make (⊞-neg (coefficient R a.0));
-        times-assoc = λ a b c. polynomial-same _ _ (product-assoc a.0 b.0 c.0 (le_of_eq a.1) (le_of_eq b.1) (le_of_eq c.1));
-        times-comm = λ a b. polynomial-same _ _ (product-comm a.0 b.0 (le_of_eq a.1) (le_of_eq b.1));
+        times_assoc = λ a b c. polynomial-same _ _ (product_assoc a.0 b.0 c.0 (le_of_eq a.1) (le_of_eq b.1) (le_of_eq c.1));
+        times_comm = λ a b. polynomial-same _ _ (product_comm a.0 b.0 (le_of_eq a.1) (le_of_eq b.1));
         times-one = times-one;
         times-plus = times-plus;
       }

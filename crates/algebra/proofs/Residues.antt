@@ -9,7 +9,7 @@ use native.Mathlib.Nat.{mod-eq_of_lt, mod-mod, mod-add-mod, add-mod-mod, mod_sel
 use native.Mathlib.Nat as N
 use native.Mathlib.Omega.{arith}
 use Rattle.algebra.specs.Ring.{CommRing, pow}
-use Rattle.algebra.specs.Residues.{Residue, residue, addResidue, mulResidue, negResidue}
+use Rattle.algebra.specs.Residues.{Residue, residue, add_residue, mul_residue, neg_residue}
 use Rattle.algebra.proofs.Ring as L
 
 pub mod-mul-left : (a b m : ℕ) → (a % m) * b % m ≡ a * b % m
@@ -34,23 +34,23 @@ module _ (q : ℕ) (pos : 0 < q) where
   residue-value n = refl
 
   -- the residue of a number below q is that number
-  pub residue-of-value : (x : Residue q) → z x.0 ≡ x
-  residue-of-value x = residue-same _ _ (residue-value x.0 ∙ mod-eq_of_lt x.1)
+  pub residue_of-value : (x : Residue q) → z x.0 ≡ x
+  residue_of-value x = residue-same _ _ (residue-value x.0 ∙ mod-eq_of_lt x.1)
 
   -- ℤ/q. It stands here and not in specs/, since the record holds the proofs of the laws; its operations are in specs/.
   pub ℤ/ : CommRing (Residue q)
   ℤ/ = record {
-    ◌⊕◌ = addResidue q pos;
-    ◌⊗◌ = mulResidue q pos;
-    neg = negResidue q pos;
+    ◌⊕◌ = add_residue q pos;
+    ◌⊗◌ = mul_residue q pos;
+    neg = neg_residue q pos;
     𝟘 = z 0;
     𝟙 = z 1;
     plus_assoc = λ a b c. residue-same _ _ (simp (residue-value, mod-add-mod, add-mod-mod, add_assoc));
     plus_comm = λ a b. ap z (add_comm a.0 b.0);
     plus-zero = λ a. residue-same _ _ (simp (residue-value, add-mod-mod, add-zero) (mod-eq_of_lt a.1));
     plus-neg = λ a. residue-same _ _ (simp (residue-value, add-mod-mod) (simp (add-sub_of_le, a.1, le_of_lt, mod_self, zero-mod)));
-    times-assoc = λ a b c. residue-same _ _ (simp (residue-value, mod-mul-left, mod-mul-right, mul_assoc));
-    times-comm = λ a b. ap z (mul_comm a.0 b.0);
+    times_assoc = λ a b c. residue-same _ _ (simp (residue-value, mod-mul-left, mod-mul-right, mul_assoc));
+    times_comm = λ a b. ap z (mul_comm a.0 b.0);
     times-one = λ a. residue-same _ _ (simp (residue-value, mod-mul-right, mul-one) (mod-eq_of_lt a.1));
     times-plus = λ a b c. residue-same _ _ (simp (residue-value, mod-add-mod, add-mod-mod, mod-mul-right, mul-add));
   }
@@ -104,8 +104,8 @@ module _ (q : ℕ) (pos : 0 < q) where
       L.neg_unique ℤ/ 𝟙 (z (q - 1)) (ap (λ (x : Residue q). x ⊕ z (q - 1)) (sym of_one) ∙ sym (of-add 1 (q - 1)) ∙ ap z (omega arith) ∙ of-modulus)
 
   -- a residue is zero exactly when q divides the number
-  pub zero-iff : (a : ℕ) → (z a ≡ 𝟘) ↔ (a % q ≡ 0)
-  zero-iff a = ((λ e. same_of a 0 (e ∙ sym of_zero) ∙ zero-mod q), (λ e. of-same a 0 (e ∙ sym (zero-mod q)) ∙ of_zero))
+  pub zero_iff : (a : ℕ) → (z a ≡ 𝟘) ↔ (a % q ≡ 0)
+  zero_iff a = ((λ e. same_of a 0 (e ∙ sym of_zero) ∙ zero-mod q), (λ e. of-same a 0 (e ∙ sym (zero-mod q)) ∙ of_zero))
 
   -- gathers an expression in residues of numbers into the residue of one number: `simp numbers (of-same q pos a b refl)`
   pub ruleset numbers = (← of_zero, ← of_one, ← of-add, ← of-mul, ← of-neg)

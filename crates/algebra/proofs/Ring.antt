@@ -24,11 +24,11 @@ module _ {F : Type 0} (R : CommRing F) where
   pub plus-neg : (a : F) → a ⊕ neg a ≡ 𝟘
   plus-neg = R.plus-neg
 
-  pub times-assoc : (a b c : F) → (a ⊗ b) ⊗ c ≡ a ⊗ (b ⊗ c)
-  times-assoc = R.times-assoc
+  pub times_assoc : (a b c : F) → (a ⊗ b) ⊗ c ≡ a ⊗ (b ⊗ c)
+  times_assoc = R.times_assoc
 
-  pub times-comm : (a b : F) → a ⊗ b ≡ b ⊗ a
-  times-comm = R.times-comm
+  pub times_comm : (a b : F) → a ⊗ b ≡ b ⊗ a
+  times_comm = R.times_comm
 
   pub times-one : (a : F) → a ⊗ 𝟙 ≡ a
   times-one = R.times-one
@@ -38,20 +38,20 @@ module _ {F : Type 0} (R : CommRing F) where
 
   -- ---- sums and products
 
-  pub plus-left-comm : (a b c : F) → a ⊕ (b ⊕ c) ≡ b ⊕ (a ⊕ c)
-  plus-left-comm a b c = simp (← plus_assoc, plus_comm a b)
+  pub plus-left_comm : (a b c : F) → a ⊕ (b ⊕ c) ≡ b ⊕ (a ⊕ c)
+  plus-left_comm a b c = simp (← plus_assoc, plus_comm a b)
 
   pub zero-plus : (a : F) → 𝟘 ⊕ a ≡ a
   zero-plus a = plus_comm 𝟘 a ∙ plus-zero a
 
-  pub times-left-comm : (a b c : F) → a ⊗ (b ⊗ c) ≡ b ⊗ (a ⊗ c)
-  times-left-comm a b c = simp (← times-assoc, times-comm a b)
+  pub times-left_comm : (a b c : F) → a ⊗ (b ⊗ c) ≡ b ⊗ (a ⊗ c)
+  times-left_comm a b c = simp (← times_assoc, times_comm a b)
 
   pub one-times : (a : F) → 𝟙 ⊗ a ≡ a
-  one-times a = times-comm 𝟙 a ∙ times-one a
+  one-times a = times_comm 𝟙 a ∙ times-one a
 
   pub plus_times : (a b c : F) → (a ⊕ b) ⊗ c ≡ a ⊗ c ⊕ b ⊗ c
-  plus_times a b c = simp (times-comm, times-plus)
+  plus_times a b c = simp (times_comm, times-plus)
 
   -- ---- negatives
 
@@ -60,23 +60,23 @@ module _ {F : Type 0} (R : CommRing F) where
       sym (zero-plus b) ∙ ap (λ x. x ⊕ b) (sym (plus_comm (neg a) a ∙ plus-neg a))
       ∙ plus_assoc (neg a) a b ∙ ap (λ x. neg a ⊕ x) h ∙ plus-zero (neg a)
 
-  pub plus-cancel : (a b : F) → a ⊕ (neg a ⊕ b) ≡ b
-  plus-cancel a b = simp (← plus_assoc, plus-neg, zero-plus)
+  pub plus_cancel : (a b : F) → a ⊕ (neg a ⊕ b) ≡ b
+  plus_cancel a b = simp (← plus_assoc, plus-neg, zero-plus)
 
-  pub plus-cancel' : (a b : F) → neg a ⊕ (a ⊕ b) ≡ b
-  plus-cancel' a b = simp (← plus_assoc, plus_comm (neg a) a, plus-neg, zero-plus)
+  pub plus_cancel' : (a b : F) → neg a ⊕ (a ⊕ b) ≡ b
+  plus_cancel' a b = simp (← plus_assoc, plus_comm (neg a) a, plus-neg, zero-plus)
 
   pub neg-plus-self : (a : F) → neg a ⊕ a ≡ 𝟘
   neg-plus-self a = plus_comm (neg a) a ∙ plus-neg a
 
-  pub plus-left-cancel : (a b c : F) → a ⊕ b ≡ a ⊕ c → b ≡ c
-  plus-left-cancel a b c h = sym (plus-cancel' a b) ∙ ap (λ x. neg a ⊕ x) h ∙ plus-cancel' a c
+  pub plus-left_cancel : (a b c : F) → a ⊕ b ≡ a ⊕ c → b ≡ c
+  plus-left_cancel a b c h = sym (plus_cancel' a b) ∙ ap (λ x. neg a ⊕ x) h ∙ plus_cancel' a c
 
   pub times_zero : (a : F) → a ⊗ 𝟘 ≡ 𝟘
-  times_zero a = plus-left-cancel (a ⊗ 𝟘) (a ⊗ 𝟘) 𝟘 (sym (times-plus a 𝟘 𝟘) ∙ simp (plus-zero))
+  times_zero a = plus-left_cancel (a ⊗ 𝟘) (a ⊗ 𝟘) 𝟘 (sym (times-plus a 𝟘 𝟘) ∙ simp (plus-zero))
 
   pub zero-times : (a : F) → 𝟘 ⊗ a ≡ 𝟘
-  zero-times a = times-comm 𝟘 a ∙ times_zero a
+  zero-times a = times_comm 𝟘 a ∙ times_zero a
 
   pub neg-zero : neg 𝟘 ≡ 𝟘
   neg-zero = sym (neg_unique 𝟘 𝟘 (plus-zero 𝟘))
@@ -85,48 +85,48 @@ module _ {F : Type 0} (R : CommRing F) where
   neg-neg a = sym (neg_unique (neg a) a (neg-plus-self a))
 
   pub neg-plus : (a b : F) → neg (a ⊕ b) ≡ neg a ⊕ neg b
-  neg-plus a b = sym (neg_unique (a ⊕ b) (neg a ⊕ neg b) (simp (plus_assoc, plus-left-comm b (neg a) (neg b), plus-neg, plus-zero)))
+  neg-plus a b = sym (neg_unique (a ⊕ b) (neg a ⊕ neg b) (simp (plus_assoc, plus-left_comm b (neg a) (neg b), plus-neg, plus-zero)))
 
   pub times-neg : (a b : F) → a ⊗ neg b ≡ neg (a ⊗ b)
   times-neg a b = neg_unique (a ⊗ b) (a ⊗ neg b) (sym (times-plus a b (neg b)) ∙ simp (plus-neg, times_zero))
 
   pub neg-times : (a b : F) → neg a ⊗ b ≡ neg (a ⊗ b)
-  neg-times a b = times-comm (neg a) b ∙ times-neg b a ∙ ap neg (times-comm b a)
+  neg-times a b = times_comm (neg a) b ∙ times-neg b a ∙ ap neg (times_comm b a)
 
   -- a and - a cancel over up to four other summands
 
   pub cancel₂ : (a b c : F) → a ⊕ (b ⊕ (neg a ⊕ c)) ≡ b ⊕ c
-  cancel₂ a b c = simp (plus-left-comm a b, plus-cancel)
+  cancel₂ a b c = simp (plus-left_comm a b, plus_cancel)
 
   pub cancel₂' : (a b : F) → a ⊕ (b ⊕ neg a) ≡ b
-  cancel₂' a b = simp (plus-left-comm a b, plus-neg, plus-zero)
+  cancel₂' a b = simp (plus-left_comm a b, plus-neg, plus-zero)
 
   pub cancel₃ : (a b c d : F) → a ⊕ (b ⊕ (c ⊕ (neg a ⊕ d))) ≡ b ⊕ (c ⊕ d)
-  cancel₃ a b c d = simp (plus-left-comm a b, cancel₂)
+  cancel₃ a b c d = simp (plus-left_comm a b, cancel₂)
 
   pub cancel₃' : (a b c : F) → a ⊕ (b ⊕ (c ⊕ neg a)) ≡ b ⊕ c
-  cancel₃' a b c = simp (plus-left-comm a b, cancel₂')
+  cancel₃' a b c = simp (plus-left_comm a b, cancel₂')
 
   pub cancel₄ : (a b c d e : F) → a ⊕ (b ⊕ (c ⊕ (d ⊕ (neg a ⊕ e)))) ≡ b ⊕ (c ⊕ (d ⊕ e))
-  cancel₄ a b c d e = simp (plus-left-comm a b, cancel₃)
+  cancel₄ a b c d e = simp (plus-left_comm a b, cancel₃)
 
   pub cancel₄' : (a b c d : F) → a ⊕ (b ⊕ (c ⊕ (d ⊕ neg a))) ≡ b ⊕ (c ⊕ d)
-  cancel₄' a b c d = simp (plus-left-comm a b, cancel₃')
+  cancel₄' a b c d = simp (plus-left_comm a b, cancel₃')
 
   pub cancel₅ : (a b c d e f : F) → a ⊕ (b ⊕ (c ⊕ (d ⊕ (e ⊕ (neg a ⊕ f))))) ≡ b ⊕ (c ⊕ (d ⊕ (e ⊕ f)))
-  cancel₅ a b c d e f = simp (plus-left-comm a b, cancel₄)
+  cancel₅ a b c d e f = simp (plus-left_comm a b, cancel₄)
 
   pub cancel₅' : (a b c d e : F) → a ⊕ (b ⊕ (c ⊕ (d ⊕ (e ⊕ neg a)))) ≡ b ⊕ (c ⊕ (d ⊕ e))
-  cancel₅' a b c d e = simp (plus-left-comm a b, cancel₄')
+  cancel₅' a b c d e = simp (plus-left_comm a b, cancel₄')
 
   -- closes identities of commutative rings: `simp ring`
   pub ruleset ring = (
     plus_assoc,
     plus_comm,
-    plus-left-comm,
-    times-assoc,
-    times-comm,
-    times-left-comm,
+    plus-left_comm,
+    times_assoc,
+    times_comm,
+    times-left_comm,
     times-plus,
     plus_times,
     neg-plus,
@@ -142,8 +142,8 @@ module _ {F : Type 0} (R : CommRing F) where
     one-times,
     plus-neg,
     neg-plus-self,
-    plus-cancel,
-    plus-cancel',
+    plus_cancel,
+    plus_cancel',
     cancel₂,
     cancel₂',
     cancel₃,
@@ -241,8 +241,8 @@ module _ {G F : Type 0} (R : CommRing F) (f : G → F) (injective : (x y : G) �
     plus_comm = λ a b. injective _ _ (f-plus a b ∙ plus_comm R (f a) (f b) ∙ sym (f-plus b a));
     plus-zero = λ a. injective _ _ (simp (f-plus, f-zero) (plus-zero R (f a)));
     plus-neg = λ a. injective _ _ (simp (f-plus, f-neg, f-zero) (plus-neg R (f a)));
-    times-assoc = λ a b c. injective _ _ (simp f-times (times-assoc R (f a) (f b) (f c)));
-    times-comm = λ a b. injective _ _ (f-times a b ∙ times-comm R (f a) (f b) ∙ sym (f-times b a));
+    times_assoc = λ a b c. injective _ _ (simp f-times (times_assoc R (f a) (f b) (f c)));
+    times_comm = λ a b. injective _ _ (f-times a b ∙ times_comm R (f a) (f b) ∙ sym (f-times b a));
     times-one = λ a. injective _ _ (simp (f-times, f-one) (times-one R (f a)));
     times-plus = λ a b c. injective _ _ (simp (f-times, f-plus) (times-plus R (f a) (f b) (f c)));
   }

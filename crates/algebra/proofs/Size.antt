@@ -10,9 +10,9 @@ use lib.Dec.{ltb}
 use lib.ListN.{length, get_or, length-map}
 use Rattle.algebra.specs.Ring.{CommRing, sum}
 use Rattle.algebra.specs.Residues.{Residue, residue, residues}
-use Rattle.algebra.specs.Polynomials.{coefficient, product, negacyclic, timesX, shifted, timesPower}
+use Rattle.algebra.specs.Polynomials.{coefficient, product, negacyclic, times_x, shifted, times_power}
 use Rattle.algebra.specs.Numbers as N
-use Rattle.algebra.specs.Numbers.{sumBelow}
+use Rattle.algebra.specs.Numbers.{sum_below}
 use Rattle.algebra.specs.OnNumbers.{IsProduct}
 use Rattle.algebra.specs.Size.{count, Within, positive, negative, Spread, magnitude}
 use Rattle.algebra.proofs.Ring.{ring}
@@ -44,11 +44,11 @@ module _ {F : Type 0} (R : CommRing F) where
   pub count-mul : (m n : ℕ) → count R (m * n) ≡ count R m ⊗ count R n
   count-mul zero n = ap (count R) (omega arith) ∙ count-zero ∙ sym (L.zero-times R (count R n)) ∙ ap (λ (x : F). x ⊗ count R n) (sym count-zero)
   count-mul (suc m) n =
-      ap (count R) (omega arith) ∙ count_add n (m * n) ∙ ap (λ (x : F). count R n ⊕ x) (count-mul m n) ∙ one_more (count R m) (count R n)
+      ap (count R) (omega arith) ∙ count_add n (m * n) ∙ ap (λ (x : F). count R n ⊕ x) (count-mul m n) ∙ one_more_lem (count R m) (count R n)
       ∙ ap (λ (x : F). x ⊗ count R n) (sym (count-suc m))
     where
-      one_more : (x y : F) → y ⊕ x ⊗ y ≡ (𝟙 ⊕ x) ⊗ y
-      one_more x y = simp ring
+      one_more_lem : (x y : F) → y ⊕ x ⊗ y ≡ (𝟙 ⊕ x) ⊗ y
+      one_more_lem x y = simp ring
 
   count-sub : (m n : ℕ) → n ≤ m → count R m ⊕ neg (count R n) ≡ count R (m - n)
   count-sub m n h = ap (λ (x : F). x ⊕ neg (count R n)) (ap (count R) split ∙ count_add (m - n) n) ∙ cut (count R (m - n)) (count R n)
@@ -100,11 +100,11 @@ module _ {F : Type 0} (R : CommRing F) where
       ∙ sym (count-mul k m))
 
   -- a sum whose terms have the weights w i
-  pub within-sum : (b n : ℕ) (w : ℕ → ℕ) (f : ℕ → F) → ((i : ℕ) → i < n → Within R (w i * b) (f i)) → Within R (sumBelow n w * b) (sum R n f)
-  unfolding sumBelow sum
+  pub within-sum : (b n : ℕ) (w : ℕ → ℕ) (f : ℕ → F) → ((i : ℕ) → i < n → Within R (w i * b) (f i)) → Within R (sum_below n w * b) (sum R n f)
+  unfolding sum_below sum
   within-sum b zero w f h = within-zero _
   within-sum b (suc n) w f h =
-      subst (λ (m : ℕ). Within R m (f 0 ⊕ sum R n (λ i. f (suc i)))) (sym (add-mul (w 0) (sumBelow n (λ i. w (suc i))) b))
+      subst (λ (m : ℕ). Within R m (f 0 ⊕ sum R n (λ i. f (suc i)))) (sym (add-mul (w 0) (sum_below n (λ i. w (suc i))) b))
       (within-plus (h zero (suc-le-suc zero-le)) (within-sum b n (λ i. w (suc i)) (λ i. f (suc i)) (λ i g. h (suc i) (suc-le-suc g))))
 
   -- ---- coefficients of a product: at most κ times the sum of the |x_i| times the greatest |y_j|
@@ -112,19 +112,19 @@ module _ {F : Type 0} (R : CommRing F) where
   module _ (p : ℕ) (r : List F) (fits : length r ≤ suc p) where
     pub product-bound : (κ b : ℕ) (w : ℕ → ℕ) → Spread R p r κ → (x y : List F) → length x ≡ suc p → length y ≤ suc p
         → ((k : ℕ) → Within R (w k) (coefficient R x k)) → ((k : ℕ) → Within R b (coefficient R y k))
-        → (k : ℕ) → Within R (sumBelow (suc p) w * (κ * b)) (coefficient R (product R p r x y) k)
+        → (k : ℕ) → Within R (sum_below (suc p) w * (κ * b)) (coefficient R (product R p r x y) k)
     product-bound κ b w spread x y hx hy bx by k =
-        subst (Within R (sumBelow (suc p) w * (κ * b)))
+        subst (Within R (sum_below (suc p) w * (κ * b)))
         (sym (ap (λ (u : ℕ → F). u k) (coefficient-product R p r fits x y hy) ∙ act-sum R p r x (coefficient R y) k ∙ ap (λ (n : ℕ). sum R n term) hx))
         (within-sum (κ * b) (suc p) w term (λ i h. within-times (bx i) (spread b (coefficient R y) by i k h)))
       where
         term : ℕ → F
-        term i = coefficient R x i ⊗ timesPower R p r i (coefficient R y) k
+        term i = coefficient R x i ⊗ times_power R p r i (coefficient R y) k
 
   -- X^n = - 1 spreads nothing
   module _ (p : ℕ) where
-    step : (b : ℕ) (u : ℕ → F) → ((k : ℕ) → Within R b (u k)) → (k : ℕ) → Within R b (timesX R p (negacyclic R) u k)
-    unfolding timesX shifted
+    step : (b : ℕ) (u : ℕ → F) → ((k : ℕ) → Within R b (u k)) → (k : ℕ) → Within R b (times_x R p (negacyclic R) u k)
+    unfolding times_x shifted
     step b u h zero = subst (Within R b) (first (u p)) (within-neg (h p))
       where
         first : (x : F) → neg x ≡ 𝟘 ⊕ x ⊗ neg 𝟙
@@ -138,10 +138,10 @@ module _ {F : Type 0} (R : CommRing F) where
         go true = subst (Within R b) (same (u k) (u p)) (h k)
         go false = subst (Within R b) (same 𝟘 (u p)) (within-zero b)
 
-    steps : (b : ℕ) (u : ℕ → F) → ((k : ℕ) → Within R b (u k)) → (i k : ℕ) → Within R b (timesPower R p (negacyclic R) i u k)
-    unfolding timesPower
+    steps : (b : ℕ) (u : ℕ → F) → ((k : ℕ) → Within R b (u k)) → (i k : ℕ) → Within R b (times_power R p (negacyclic R) i u k)
+    unfolding times_power
     steps b u h zero k = h k
-    steps b u h (suc i) k = step b (timesPower R p (negacyclic R) i u) (steps b u h i) k
+    steps b u h (suc i) k = step b (times_power R p (negacyclic R) i u) (steps b u h i) k
 
     pub spread-negacyclic : Spread R p (negacyclic R) 1
     spread-negacyclic b u h i k g = within-up (omega arith) (steps b u h i k)
@@ -187,7 +187,7 @@ module _ (q : ℕ) (pos : 0 < q) where
   module _ (p : ℕ) (r : List (Residue q)) (times : List ℕ → List ℕ → List ℕ) (is : IsProduct Z z q p r times) where
     pub product-magnitude : (κ b : ℕ) → Spread Z p r κ → (x y : List ℕ) → length x ≡ suc p → length y ≡ suc p
         → ((k : ℕ) → magnitude q (get_or y k 0) ≤ b)
-        → (k : ℕ) → magnitude q (get_or (times x y) k 0) ≤ sumBelow (suc p) (λ i. magnitude q (get_or x i 0)) * (κ * b)
+        → (k : ℕ) → magnitude q (get_or (times x y) k 0) ≤ sum_below (suc p) (λ i. magnitude q (get_or x i 0)) * (κ * b)
     product-magnitude κ b spread x y hx hy h k =
         let lx : length (residues q pos x) ≡ suc p = length-map x _ ∙ hx in
         let ly : length (residues q pos y) ≤ suc p = le_of_eq (length-map y _ ∙ hy) in
@@ -199,7 +199,7 @@ module _ (q : ℕ) (pos : 0 < q) where
 
 -- where X^n = - 1: at most (|x₀| + .. + |x_p|) max |y_j|
 pub plain-magnitude : (q : ℕ) → 0 < q → (p b : ℕ) (x y : List ℕ) → length x ≡ suc p → length y ≡ suc p → ((k : ℕ) → magnitude q (get_or y k 0) ≤ b)
-    → (k : ℕ) → magnitude q (get_or (N.product q (suc p) x y) k 0) ≤ sumBelow (suc p) (λ i. magnitude q (get_or x i 0)) * b
+    → (k : ℕ) → magnitude q (get_or (N.product q (suc p) x y) k 0) ≤ sum_below (suc p) (λ i. magnitude q (get_or x i 0)) * b
 plain-magnitude q pos p b x y hx hy h k =
-    subst (λ (m : ℕ). magnitude q (get_or (N.product q (suc p) x y) k 0) ≤ sumBelow (suc p) (λ i. magnitude q (get_or x i 0)) * m) (one-mul b)
+    subst (λ (m : ℕ). magnitude q (get_or (N.product q (suc p) x y) k 0) ≤ sum_below (suc p) (λ i. magnitude q (get_or x i 0)) * m) (one-mul b)
     (product-magnitude q pos p (negacyclic (ℤ/ q pos)) (N.product q (suc p)) (plain-product q pos p) 1 b (spread-negacyclic (ℤ/ q pos) p) x y hx hy h k)

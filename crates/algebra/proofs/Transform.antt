@@ -7,7 +7,7 @@ use native.Mathlib.Omega.{arith}
 use lib.ListN.{length, take, drop, replicate, length-append, length-drop, length-map, take-append-drop}
 use lib.Seq.{take_at, drop_at, length-take-le}
 use Rattle.lists.proofs.Tables.{length-table}
-use Rattle.lists.proofs.Maps.{map-append, map-take, map-drop, map-map, map-id, map_same, length-zipWith, zipWith-left, zipWith-right, map-zip, map-zipWith, zipWith-zipWith}
+use Rattle.lists.proofs.Maps.{map-append, map-take, map-drop, map-map, map-id, map_same, length-zip_with, zip_with-left, zip_with-right, map-zip, map-zip_with, zip_with-zip_with}
 use Rattle.algebra.specs.Ring.{CommRing, pow}
 use Rattle.algebra.specs.Polynomials.{padded, product, coefficient}
 use Rattle.algebra.specs.Evaluation.{value, values, Root, All, scaled, pointwise}
@@ -26,7 +26,7 @@ module _ {F : Type 0} (R : CommRing F) where
   -- ---- multiples
 
   pub scaled-scaled : (k j : F) (a : List F) → scaled R k (scaled R j a) ≡ scaled R (k ⊗ j) a
-  scaled-scaled k j a = map-map (λ x. j ⊗ x) (λ x. k ⊗ x) a ∙ map_same _ _ (λ x. sym (L.times-assoc R k j x)) a
+  scaled-scaled k j a = map-map (λ x. j ⊗ x) (λ x. k ⊗ x) a ∙ map_same _ _ (λ x. sym (L.times_assoc R k j x)) a
 
   pub scaled-one : (a : List F) → scaled R 𝟙 a ≡ a
   scaled-one a = map-id _ (L.one-times R) a
@@ -34,27 +34,27 @@ module _ {F : Type 0} (R : CommRing F) where
   -- ---- halves
 
   module _ {n : ℕ} (s : Split R) (a : List F) (size : length a ≡ n) (halves : n ≡ s.half + s.half) where
-    length-low : length (take s.half a) ≡ s.half
-    length-low = length-take-le s.half a (omega arith)
+    length_low : length (take s.half a) ≡ s.half
+    length_low = length-take-le s.half a (omega arith)
 
     length_high : length (drop s.half a) ≡ s.half
     length_high = length-drop s.half a ∙ omega arith
 
     halves-same : length (take s.half a) ≡ length (drop s.half a)
-    halves-same = length-low ∙ sym length_high
+    halves-same = length_low ∙ sym length_high
 
     length-remainder : (z : F) → length (remainder R s.half z a) ≡ s.half
-    length-remainder z = length-zipWith _ (take s.half a) (drop s.half a) halves-same ∙ length-low
+    length-remainder z = length-zip_with _ (take s.half a) (drop s.half a) halves-same ∙ length_low
 
     -- the remainder modulo X^h - z has the same values at the roots of X^h - z
     value-remainder : (x z : F) → pow R x s.half ≡ z → value R x (remainder R s.half z a) ≡ value R x a
     value-remainder x z e =
         E.value-zip R x z (take s.half a) (drop s.half a) halves-same
-        ∙ sym (ap (value R x) (sym (take-append-drop s.half a)) ∙ E.value-append R x (take s.half a) (drop s.half a) ∙ rw (length-low, e))
+        ∙ sym (ap (value R x) (sym (take-append-drop s.half a)) ∙ E.value-append R x (take s.half a) (drop s.half a) ∙ rw (length_low, e))
 
   remainder-scaled : (h : ℕ) (z k : F) (a : List F) → remainder R h z (scaled R k a) ≡ scaled R k (remainder R h z a)
   remainder-scaled h z k a = sym (
-      map-zipWith (λ x. k ⊗ x) (λ x y. x ⊕ z ⊗ y) (λ x y. x ⊕ z ⊗ y) inner (take h a) (drop h a)
+      map-zip_with (λ x. k ⊗ x) (λ x y. x ⊕ z ⊗ y) (λ x y. x ⊕ z ⊗ y) inner (take h a) (drop h a)
       ∙ ap₂ (λ (u v : List F). zip_with (λ x y. x ⊕ z ⊗ y) u v) (map-take (λ x. k ⊗ x) h a) (map-drop (λ x. k ⊗ x) h a))
     where
       inner : (x y : F) → k ⊗ (x ⊕ z ⊗ y) ≡ k ⊗ x ⊕ z ⊗ (k ⊗ y)
@@ -108,18 +108,18 @@ module _ {F : Type 0} (R : CommRing F) where
         ≡ zip_with (λ x y. α ⊗ (j ⊗ (x ⊕ z ⊗ y)) ⊕ β ⊗ (j ⊗ (x ⊕ z' ⊗ y))) lo hi
     merged =
         ap₂ (combined R α β) (map-zip (λ x. j ⊗ x) (λ x y. x ⊕ z ⊗ y) lo hi) (map-zip (λ x. j ⊗ x) (λ x y. x ⊕ z' ⊗ y) lo hi)
-        ∙ zipWith-zipWith (λ x y. α ⊗ x ⊕ β ⊗ y) (λ x y. j ⊗ (x ⊕ z ⊗ y)) (λ x y. j ⊗ (x ⊕ z' ⊗ y)) lo hi
+        ∙ zip_with-zip_with (λ x y. α ⊗ x ⊕ β ⊗ y) (λ x y. j ⊗ (x ⊕ z ⊗ y)) (λ x y. j ⊗ (x ⊕ z' ⊗ y)) lo hi
 
-    undo-low : (m : F) → α ⊕ β ≡ m → α ⊗ z ⊕ β ⊗ z' ≡ 𝟘
+    undo_low : (m : F) → α ⊕ β ≡ m → α ⊗ z ⊕ β ⊗ z' ≡ 𝟘
         → combined R α β (scaled R j (zip_with (λ x y. x ⊕ z ⊗ y) lo hi)) (scaled R j (zip_with (λ x y. x ⊕ z' ⊗ y) lo hi)) ≡ scaled R (m ⊗ j) lo
-    undo-low m e f = merged ∙ zipWith-left _ (λ x. m ⊗ j ⊗ x) entry lo hi same
+    undo_low m e f = merged ∙ zip_with-left _ (λ x. m ⊗ j ⊗ x) entry lo hi same
       where
         entry : (x y : F) → α ⊗ (j ⊗ (x ⊕ z ⊗ y)) ⊕ β ⊗ (j ⊗ (x ⊕ z' ⊗ y)) ≡ m ⊗ j ⊗ x
         entry x y = at x y ∙ ap₂ (λ (c d : F). c ⊗ j ⊗ x ⊕ d ⊗ (j ⊗ y)) e f ∙ simp ring
 
-    undo-high : (m : F) → α ⊕ β ≡ 𝟘 → α ⊗ z ⊕ β ⊗ z' ≡ m
+    undo_high : (m : F) → α ⊕ β ≡ 𝟘 → α ⊗ z ⊕ β ⊗ z' ≡ m
         → combined R α β (scaled R j (zip_with (λ x y. x ⊕ z ⊗ y) lo hi)) (scaled R j (zip_with (λ x y. x ⊕ z' ⊗ y) lo hi)) ≡ scaled R (m ⊗ j) hi
-    undo-high m e f = merged ∙ zipWith-right _ (λ y. m ⊗ j ⊗ y) entry lo hi same
+    undo_high m e f = merged ∙ zip_with-right _ (λ y. m ⊗ j ⊗ y) entry lo hi same
       where
         entry : (x y : F) → α ⊗ (j ⊗ (x ⊕ z ⊗ y)) ⊕ β ⊗ (j ⊗ (x ⊕ z' ⊗ y)) ≡ m ⊗ j ⊗ y
         entry x y = at x y ∙ ap₂ (λ (c d : F). c ⊗ j ⊗ x ⊕ d ⊗ (j ⊗ y)) e f ∙ simp ring
@@ -134,8 +134,8 @@ module _ {F : Type 0} (R : CommRing F) where
         drop_at (evaluate R P u) (evaluate R Q v) s.half size,
         interpolate-evaluate P s.half _ g.rest g.left u (length-remainder s a e g.split.halves s.z),
         interpolate-evaluate Q s.half _ g.rest g.right v (length-remainder s a e g.split.halves s.z'),
-        undo-low s.α s.β s.z s.z' g.rest (take s.half a) (drop s.half a) same s.m matrix.left-11 matrix.left-12,
-        undo-high s.γ s.δ s.z s.z' g.rest (take s.half a) (drop s.half a) same s.m matrix.left-21 matrix.left-22,
+        undo_low s.α s.β s.z s.z' g.rest (take s.half a) (drop s.half a) same s.m matrix.left_11 matrix.left_12,
+        undo_high s.γ s.δ s.z s.z' g.rest (take s.half a) (drop s.half a) same s.m matrix.left_21 matrix.left_22,
         ← map-append (λ x. s.m ⊗ g.rest ⊗ x) (take s.half a) (drop s.half a),
         take-append-drop,
         ← g.factor,
@@ -173,16 +173,16 @@ module _ {F : Type 0} (R : CommRing F) where
     at' x y = simp ring
 
     merged' : zip_with (λ x y. x ⊕ z ⊗ y) (combined R α β u v) (combined R γ δ u v) ≡ zip_with (λ x y. α ⊗ x ⊕ β ⊗ y ⊕ z ⊗ (γ ⊗ x ⊕ δ ⊗ y)) u v
-    merged' = zipWith-zipWith (λ x y. x ⊕ z ⊗ y) (λ x y. α ⊗ x ⊕ β ⊗ y) (λ x y. γ ⊗ x ⊕ δ ⊗ y) u v
+    merged' = zip_with-zip_with (λ x y. x ⊕ z ⊗ y) (λ x y. α ⊗ x ⊕ β ⊗ y) (λ x y. γ ⊗ x ⊕ δ ⊗ y) u v
 
     redo-first : (m : F) → α ⊕ z ⊗ γ ≡ m → β ⊕ z ⊗ δ ≡ 𝟘 → zip_with (λ x y. x ⊕ z ⊗ y) (combined R α β u v) (combined R γ δ u v) ≡ scaled R m u
-    redo-first m e f = merged' ∙ zipWith-left _ (λ x. m ⊗ x) entry u v same
+    redo-first m e f = merged' ∙ zip_with-left _ (λ x. m ⊗ x) entry u v same
       where
         entry : (x y : F) → α ⊗ x ⊕ β ⊗ y ⊕ z ⊗ (γ ⊗ x ⊕ δ ⊗ y) ≡ m ⊗ x
         entry x y = at' x y ∙ ap₂ (λ (c d : F). c ⊗ x ⊕ d ⊗ y) e f ∙ simp ring
 
     redo-second : (m : F) → α ⊕ z ⊗ γ ≡ 𝟘 → β ⊕ z ⊗ δ ≡ m → zip_with (λ x y. x ⊕ z ⊗ y) (combined R α β u v) (combined R γ δ u v) ≡ scaled R m v
-    redo-second m e f = merged' ∙ zipWith-right _ (λ y. m ⊗ y) entry u v same
+    redo-second m e f = merged' ∙ zip_with-right _ (λ y. m ⊗ y) entry u v same
       where
         entry : (x y : F) → α ⊗ x ⊕ β ⊗ y ⊕ z ⊗ (γ ⊗ x ⊕ δ ⊗ y) ≡ m ⊗ y
         entry x y = at' x y ∙ ap₂ (λ (c d : F). c ⊗ x ⊕ d ⊗ y) e f ∙ simp ring
@@ -194,10 +194,10 @@ module _ {F : Type 0} (R : CommRing F) where
   length-interpolate (branch s P Q) n S k g w e =
       let u = interpolate R P (take s.half w) in
       let v = interpolate R Q (drop s.half w) in
-      let hu : length u ≡ s.half = length-interpolate P s.half _ g.rest g.left (take s.half w) (length-low s w e g.split.halves) in
+      let hu : length u ≡ s.half = length-interpolate P s.half _ g.rest g.left (take s.half w) (length_low s w e g.split.halves) in
       let hv : length v ≡ s.half = length-interpolate Q s.half _ g.rest g.right (drop s.half w) (length_high s w e g.split.halves) in
       length-append (combined R s.α s.β u v) (combined R s.γ s.δ u v)
-      ∙ ap₂ ◌+◌ (length-zipWith _ u v (hu ∙ sym hv) ∙ hu) (length-zipWith _ u v (hu ∙ sym hv) ∙ hu) ∙ sym g.split.halves
+      ∙ ap₂ ◌+◌ (length-zip_with _ u v (hu ∙ sym hv) ∙ hu) (length-zip_with _ u v (hu ∙ sym hv) ∙ hu) ∙ sym g.split.halves
 
   pub evaluate-interpolate : (P : Tree R) (n : ℕ) (S : F → Type 0) (k : F) → Sound R P n S k
       → (w : List F) → length w ≡ n → evaluate R P (interpolate R P w) ≡ scaled R k w
@@ -207,11 +207,11 @@ module _ {F : Type 0} (R : CommRing F) where
       rw (
         take_at (combined R s.α s.β u v) (combined R s.γ s.δ u v) s.half size,
         drop_at (combined R s.α s.β u v) (combined R s.γ s.δ u v) s.half size,
-        redo-first s.α s.β s.γ s.δ s.z u v same s.m g.split.inverts.right-11 g.split.inverts.right-12,
-        redo-second s.α s.β s.γ s.δ s.z' u v same s.m g.split.inverts.right-21 g.split.inverts.right-22,
+        redo-first s.α s.β s.γ s.δ s.z u v same s.m g.split.inverts.right_11 g.split.inverts.right_12,
+        redo-second s.α s.β s.γ s.δ s.z' u v same s.m g.split.inverts.right_21 g.split.inverts.right_22,
         evaluate-scaled P s.m u,
         evaluate-scaled Q s.m v,
-        evaluate-interpolate P s.half _ g.rest g.left (take s.half w) (length-low s w e g.split.halves),
+        evaluate-interpolate P s.half _ g.rest g.left (take s.half w) (length_low s w e g.split.halves),
         evaluate-interpolate Q s.half _ g.rest g.right (drop s.half w) (length_high s w e g.split.halves),
         scaled-scaled s.m g.rest (take s.half w),
         scaled-scaled s.m g.rest (drop s.half w),
@@ -227,7 +227,7 @@ module _ {F : Type 0} (R : CommRing F) where
       v = interpolate R Q (drop s.half w)
 
       hu : length u ≡ s.half
-      hu = length-interpolate P s.half _ g.rest g.left (take s.half w) (length-low s w e g.split.halves)
+      hu = length-interpolate P s.half _ g.rest g.left (take s.half w) (length_low s w e g.split.halves)
 
       hv : length v ≡ s.half
       hv = length-interpolate Q s.half _ g.rest g.right (drop s.half w) (length_high s w e g.split.halves)
@@ -236,13 +236,13 @@ module _ {F : Type 0} (R : CommRing F) where
       same = hu ∙ sym hv
 
       size : length (combined R s.α s.β u v) ≡ s.half
-      size = length-zipWith _ u v same ∙ hu
+      size = length-zip_with _ u v same ∙ hu
 
   -- a tree for a set of roots is one for every larger set
-  pub sound-under : (P : Tree R) (n : ℕ) (S S' : F → Type 0) (k : F) → ((x : F) → S x → S' x) → Sound R P n S k → Sound R P n S' k
-  sound-under (block v h) n S S' k f g =
+  pub sound_under : (P : Tree R) (n : ℕ) (S S' : F → Type 0) (k : F) → ((x : F) → S x → S' x) → Sound R P n S k → Sound R P n S' k
+  sound_under (block v h) n S S' k f g =
       record { count = g.count; roots = E.all_under R S S' f v g.roots; size = g.size; undo = g.undo; redo = g.redo }
-  sound-under (branch s P Q) n S S' k f g = record { split = larger; rest = g.rest; factor = g.factor; left = g.left; right = g.right }
+  sound_under (branch s P Q) n S S' k f g = record { split = larger; rest = g.rest; factor = g.factor; left = g.left; right = g.right }
     where
       larger : IsSplit R s n S'
       larger = record {
@@ -270,7 +270,7 @@ module _ {F : Type 0} (R : CommRing F) where
 
     pub backward-forward : (a : List F) → length a ≡ suc p → backward R T (forward R T a) ≡ a
     backward-forward a h =
-        rw (interpolate-evaluate T.tree (suc p) S T.factor T.sound a h, scaled-scaled T.unfactor T.factor a, T.unfactor-is) (scaled-one a)
+        rw (interpolate-evaluate T.tree (suc p) S T.factor T.sound a h, scaled-scaled T.unfactor T.factor a, T.unfactor_is) (scaled-one a)
 
     pub forward-backward : (v : List F) → length v ≡ suc p → forward R T (backward R T v) ≡ v
     forward-backward v h =
@@ -278,7 +278,7 @@ module _ {F : Type 0} (R : CommRing F) where
           evaluate-scaled T.tree T.unfactor (interpolate R T.tree v),
           evaluate-interpolate T.tree (suc p) S T.factor T.sound v h,
           scaled-scaled T.unfactor T.factor v,
-          T.unfactor-is,
+          T.unfactor_is,
         ) (scaled-one v)
 
     pub forward-product : (a b : List F) → length a ≡ suc p → length b ≡ suc p
@@ -289,9 +289,9 @@ module _ {F : Type 0} (R : CommRing F) where
         ∙ sym (ap₂ (pointwise R) (forward-values a ha) (forward-values b hb))
 
     -- the product by transform is the product
-    pub product-by-transform : (a b : List F) → length a ≡ suc p → length b ≡ suc p
+    pub product_by_transform : (a b : List F) → length a ≡ suc p → length b ≡ suc p
         → backward R T (pointwise R (forward R T a) (forward R T b)) ≡ product R p r a b
-    product-by-transform a b ha hb =
+    product_by_transform a b ha hb =
         ap (backward R T) (sym (forward-product a b ha hb)) ∙ backward-forward (product R p r a b) (length-product R p r a b)
 
     pub forward-one : forward R T (padded R (suc p) (𝟙 ∷ [])) ≡ replicate (suc p) 𝟙

@@ -45,16 +45,16 @@ module _ {F : Type 0} (R : CommRing F) where
 
   module _ {p : ℕ} {r : List F} (t : Transform R p r) where
     -- from the inverses of the entries to the inverse
-    pub inverse-by-transform : (b v : List F) → length b ≡ suc p → length v ≡ suc p → pointwise R (forward R t b) v ≡ replicate (suc p) 𝟙
+    pub inverse_by_transform : (b v : List F) → length b ≡ suc p → length v ≡ suc p → pointwise R (forward R t b) v ≡ replicate (suc p) 𝟙
         → product R p r b (backward R t v) ≡ padded R (suc p) (𝟙 ∷ [])
-    inverse-by-transform b v hb hv e =
+    inverse_by_transform b v hb hv e =
         sym (T.backward-forward R t _ (length-product R p r b _))
         ∙ ap (backward R t) (T.forward-product R t b _ hb (T.length-backward R t v hv)
         ∙ ap (pointwise R (forward R t b)) (T.forward-backward R t v hv) ∙ e ∙ sym (T.forward-one R t))
         ∙ T.backward-forward R t _ (length-table (suc p) (coefficient R (𝟙 ∷ [])))
 
-    pub unit-iff : IsField R → (b : List F) → length b ≡ suc p → Invertible R p r b ↔ NoZero R (forward R t b)
-    unit-iff field b h = (only, made)
+    pub unit_iff : IsField R → (b : List F) → length b ≡ suc p → Invertible R p r b ↔ NoZero R (forward R t b)
+    unit_iff field b h = (only, made)
       where
         size : length (forward R t b) ≡ suc p
         size = T.length-forward R t b h
@@ -71,4 +71,4 @@ module _ {F : Type 0} (R : CommRing F) where
                 → Invertible R p r b
             put (w, hw, e) =
                 let f = e ∙ ap (λ (n : ℕ). replicate n 𝟙) size in
-                (backward R t w, T.length-backward R t w (hw ∙ size), inverse-by-transform b w h (hw ∙ size) f)
+                (backward R t w, T.length-backward R t w (hw ∙ size), inverse_by_transform b w h (hw ∙ size) f)

@@ -13,7 +13,7 @@ pub record IsProduct {F : Type 0} (R : CommRing F) (class : ℕ → F) (q p : �
       → map class (times a b) ≡ P.product R p r (map class a) (map class b)
 
 pub record IsTransform {F : Type 0} (R : CommRing F) (class : ℕ → F) (q p : ℕ) (r : List F) (t : Transform R p r) (forth back : List ℕ → List ℕ) : Type 0 where
-  pub forth-is : (a : List ℕ) → length a ≡ suc p → map class (forth a) ≡ T.forward R t (map class a)
+  pub forth_is : (a : List ℕ) → length a ≡ suc p → map class (forth a) ≡ T.forward R t (map class a)
   pub forth-below : (a : List ℕ) → Element q (suc p) a → Below q (forth a)
   pub back_is : (v : List ℕ) → length v ≡ suc p → map class (back v) ≡ T.backward R t (map class v)
   pub back_below : (v : List ℕ) → Below q (back v)

@@ -51,17 +51,17 @@ module _ {F : Type 0} (R : CommRing F) where
     shifted u (suc k) = cond (ltb k p) (u k) 𝟘
 
     -- times X, where X · X^p is r
-    unfoldable pub timesX : (ℕ → F) → ℕ → F
-    timesX u = λ k. shifted u k ⊕ u p ⊗ coefficient r k
+    unfoldable pub times_x : (ℕ → F) → ℕ → F
+    times_x u = λ k. shifted u k ⊕ u p ⊗ coefficient r k
 
     -- times X^i
-    unfoldable pub timesPower : ℕ → (ℕ → F) → ℕ → F
-    timesPower zero u = u
-    timesPower (suc i) u = timesX (timesPower i u)
+    unfoldable pub times_power : ℕ → (ℕ → F) → ℕ → F
+    times_power zero u = u
+    times_power (suc i) u = times_x (times_power i u)
 
     -- a(X) b: coefficient k is the sum of the a_i (X^i b)_k (`act-sum` in proofs/Polynomials)
     unfoldable pub product : List F → List F → List F
-    product a b = table (suc p) (act timesX a (coefficient b))
+    product a b = table (suc p) (act times_x a (coefficient b))
 
     -- b is a unit of the ring
     abbrev pub Invertible : List F → Type 0

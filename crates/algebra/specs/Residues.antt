@@ -11,14 +11,14 @@ residue q pos n = (n % q, mod-lt n pos)
 
 -- the operations of ℤ/q
 module _ (q : ℕ) (pos : 0 < q) where
-  abbrev pub addResidue : Residue q → Residue q → Residue q
-  addResidue x y = residue q pos (x.0 + y.0)
+  abbrev pub add_residue : Residue q → Residue q → Residue q
+  add_residue x y = residue q pos (x.0 + y.0)
 
-  abbrev pub mulResidue : Residue q → Residue q → Residue q
-  mulResidue x y = residue q pos (x.0 * y.0)
+  abbrev pub mul_residue : Residue q → Residue q → Residue q
+  mul_residue x y = residue q pos (x.0 * y.0)
 
-  abbrev pub negResidue : Residue q → Residue q
-  negResidue x = residue q pos (q - x.0)
+  abbrev pub neg_residue : Residue q → Residue q
+  neg_residue x = residue q pos (q - x.0)
 
 -- the residues of a list of numbers
 abbrev pub residues : (q : ℕ) → 0 < q → List ℕ → List (Residue q)
@@ -26,4 +26,4 @@ residues q pos l = map (residue q pos) l
 
 pub record Prime (q : ℕ) : Type 0 where
   pub above-one : 1 < q
-  pub no-divisor : (x : ℕ) → 1 < x → x < q → q % x ≢ 0
+  pub no_divisor : (x : ℕ) → 1 < x → x < q → q % x ≢ 0

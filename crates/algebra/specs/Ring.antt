@@ -13,8 +13,8 @@ pub record CommRing (F : Type 0) : Type 0 where
   pub plus_comm : (a b : F) → a ⊕ b ≡ b ⊕ a
   pub plus-zero : (a : F) → a ⊕ 𝟘 ≡ a
   pub plus-neg : (a : F) → a ⊕ neg a ≡ 𝟘
-  pub times-assoc : (a b c : F) → (a ⊗ b) ⊗ c ≡ a ⊗ (b ⊗ c)
-  pub times-comm : (a b : F) → a ⊗ b ≡ b ⊗ a
+  pub times_assoc : (a b c : F) → (a ⊗ b) ⊗ c ≡ a ⊗ (b ⊗ c)
+  pub times_comm : (a b : F) → a ⊗ b ≡ b ⊗ a
   pub times-one : (a : F) → a ⊗ 𝟙 ≡ a
   pub times-plus : (a b c : F) → a ⊗ (b ⊕ c) ≡ a ⊗ b ⊕ a ⊗ c
 

@@ -1,7 +1,7 @@
 -- How far a ring element lies from 0, counted in ones, and how far a rule spreads coefficients.
 use Rattle.std.specs.Prelude.{◌≡◌, List, ℕ, zero, suc, ◌-◌, ◌*◌, ◌%◌, ◌≤◌, ◌<◌, min}
 use Rattle.algebra.specs.Ring.{CommRing}
-use Rattle.algebra.specs.Polynomials.{timesPower}
+use Rattle.algebra.specs.Polynomials.{times_power}
 
 module _ {F : Type 0} (R : CommRing F) where
   infixl 65 ◌⊕◌
@@ -19,7 +19,7 @@ module _ {F : Type 0} (R : CommRing F) where
 
   -- modulo X^(p + 1) - r the powers of X make coefficients at most κ times as large
   abbrev pub Spread : ℕ → List F → ℕ → Type 0
-  Spread p r κ = (b : ℕ) (u : ℕ → F) → ((k : ℕ) → Within b (u k)) → (i k : ℕ) → i < suc p → Within (κ * b) (timesPower R p r i u k)
+  Spread p r κ = (b : ℕ) (u : ℕ → F) → ((k : ℕ) → Within b (u k)) → (i k : ℕ) → i < suc p → Within (κ * b) (times_power R p r i u k)
 
 -- the size of a number modulo q: its distance to the nearest multiple of q
 abbrev pub magnitude : ℕ → ℕ → ℕ

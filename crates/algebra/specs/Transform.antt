@@ -64,15 +64,15 @@ module _ {F : Type 0} (R : CommRing F) where
   -- the two matrices are inverse to each other but for the factor m
   pub record Inverts (s : Split) : Type 0 where
     -- (α β, γ δ) (1 z, 1 z') = m
-    pub left-11 : s.α ⊕ s.β ≡ s.m
-    pub left-12 : s.α ⊗ s.z ⊕ s.β ⊗ s.z' ≡ 𝟘
-    pub left-21 : s.γ ⊕ s.δ ≡ 𝟘
-    pub left-22 : s.γ ⊗ s.z ⊕ s.δ ⊗ s.z' ≡ s.m
+    pub left_11 : s.α ⊕ s.β ≡ s.m
+    pub left_12 : s.α ⊗ s.z ⊕ s.β ⊗ s.z' ≡ 𝟘
+    pub left_21 : s.γ ⊕ s.δ ≡ 𝟘
+    pub left_22 : s.γ ⊗ s.z ⊕ s.δ ⊗ s.z' ≡ s.m
     -- (1 z, 1 z') (α β, γ δ) = m
-    pub right-11 : s.α ⊕ s.z ⊗ s.γ ≡ s.m
-    pub right-12 : s.β ⊕ s.z ⊗ s.δ ≡ 𝟘
-    pub right-21 : s.α ⊕ s.z' ⊗ s.γ ≡ 𝟘
-    pub right-22 : s.β ⊕ s.z' ⊗ s.δ ≡ s.m
+    pub right_11 : s.α ⊕ s.z ⊗ s.γ ≡ s.m
+    pub right_12 : s.β ⊕ s.z ⊗ s.δ ≡ 𝟘
+    pub right_21 : s.α ⊕ s.z' ⊗ s.γ ≡ 𝟘
+    pub right_22 : s.β ⊕ s.z' ⊗ s.δ ≡ s.m
 
   pub record IsSplit (s : Split) (n : ℕ) (S : F → Type 0) : Type 0 where
     pub halves : n ≡ s.half + s.half
@@ -101,7 +101,7 @@ module _ {F : Type 0} (R : CommRing F) where
     pub factor : F
     pub sound : Sound tree (suc p) (Root R (suc p) r) factor
     pub unfactor : F
-    pub unfactor-is : unfactor ⊗ factor ≡ 𝟙
+    pub unfactor_is : unfactor ⊗ factor ≡ 𝟙
 
   module _ {p : ℕ} {r : List F} (T : Transform p r) where
     abbrev pub forward : List F → List F

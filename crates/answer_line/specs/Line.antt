@@ -1,6 +1,6 @@
 -- The line of an answer, as ASCII bytes.
 use Rattle.std.specs.Prelude.{List, [], ◌∷◌, ◌++◌, ℕ}
-use Rattle.hex.specs.Hex.{text_of}
+use Rattle.hexadecimal.specs.Hex.{text_of}
 use Rattle.text.specs.Text.{decimal}
 use Rattle.answers.specs.declared.Answer.{Answer}
 use Rattle.answers.specs.declared.Answer.TheVariants.{Done, Refused}

@@ -1,7 +1,7 @@
 // The line of an answer: its number and, under Done, an entry in hexadecimal.
 ghost use Rattle.std.specs.Prelude.{◌≡◌, [], ◌∷◌, ◌≤◌, min, length};
 ghost use Rattle.lists.specs.Table.{zeros};
-ghost use Rattle.hex.specs.Hex.{text_of};
+ghost use Rattle.hexadecimal.specs.Hex.{text_of};
 ghost use Rattle.text.specs.Text.{written};
 ghost use Rattle.answers.specs.Answers.{number};
 ghost use Rattle.answer_line.specs.Line.{shown, line_of};
@@ -38,7 +38,7 @@ fn entry_line(entry: [u8; BLOCK_LENGTH]) -> Text
     ensures length_value { (result.length ≡ length (line_of 0 (text_of entry))) × (result.length ≤ 35) }
 {
     let mut digits = [0u8; 32];
-    hex::encode(&entry, &mut digits);
+    hexadecimal::encode(&entry, &mut digits);
     line_of(0, &digits)
 }
 

@@ -10,12 +10,12 @@ use Rattle.answers.specs.declared.Refusal.TheVariants.{NotInvertible, KeyMismatc
 use Rattle.answers.specs.declared.Answer.{Answer}
 use Rattle.answers.specs.declared.Answer.TheVariants.{Done, Refused}
 use Rattle.answers.specs.declared.Location.{Location}
-use Rattle.answers.specs.Answers.{refusalNumber, number, unless, andThen, onDone}
+use Rattle.answers.specs.Answers.{refusal_number, number, unless, and_then, on_done}
 use Rattle.answers.specs.Locations.{Names}
 
 -- ---- 0 is Done
 
-pub refusal-positive : (r : Refusal) → 0 < refusalNumber r
+pub refusal-positive : (r : Refusal) → 0 < refusal_number r
 refusal-positive WrongLength = omega arith
 refusal-positive WrongMark = omega arith
 refusal-positive WrongVersion = omega arith
@@ -30,7 +30,7 @@ refusal-positive (EncapsulationOutOfRange c) = omega arith
 refusal-positive WrongCount = omega arith
 refusal-positive InverseMismatch = omega arith
 
-refusal-not-zero : (r : Refusal) → ¬ (refusalNumber r ≡ 0)
+refusal-not-zero : (r : Refusal) → ¬ (refusal_number r ≡ 0)
 refusal-not-zero r e = omega (arith, refusal-positive r, e)
 
 pub not_done : {r : Refusal} → ¬ (Refused r ≡ Done)
@@ -49,32 +49,32 @@ pub unless-done : (t : Bool) (r : Refusal) (a : Answer) → (unless t r a ≡ Do
 unless-done true r a = (λ e. (refl, e), λ (p, e). e)
 unless-done false r a = (λ e. absurd (not_done e), λ (p, e). absurd (false≢true p))
 
-pub then-done : (a b : Answer) → (andThen a b ≡ Done) ↔ ((a ≡ Done) × (b ≡ Done))
+pub then-done : (a b : Answer) → (and_then a b ≡ Done) ↔ ((a ≡ Done) × (b ≡ Done))
 then-done Done b = (λ e. (refl, e), λ (p, e). e)
 then-done (Refused r) b = (λ e. absurd (not_done e), λ (p, e). absurd (not_done p))
 
 -- ---- one check: it passes, or it refuses
 
-pub unless-passed : {t : Bool} (r : Refusal) (a : Answer) → t ≡ true → unless t r a ≡ a
-unless-passed r a e = rw e
+pub unless_passed : {t : Bool} (r : Refusal) (a : Answer) → t ≡ true → unless t r a ≡ a
+unless_passed r a e = rw e
 
 pub unless-failed : {t : Bool} (r : Refusal) (a : Answer) → t ≡ false → unless t r a ≡ Refused r
 unless-failed r a e = rw e
 
-pub then-passed : {a : Answer} (b : Answer) → a ≡ Done → andThen a b ≡ b
-then-passed b e = rw e
+pub then_passed : {a : Answer} (b : Answer) → a ≡ Done → and_then a b ≡ b
+then_passed b e = rw e
 
 -- a test on its own, before what follows
-pub unless-then : (t : Bool) (r : Refusal) (a : Answer) → andThen (unless t r Done) a ≡ unless t r a
+pub unless-then : (t : Bool) (r : Refusal) (a : Answer) → and_then (unless t r Done) a ≡ unless t r a
 unless-then true r a = refl
 unless-then false r a = refl
 
 -- where nothing follows
-pub then-nothing : (a : Answer) → andThen a Done ≡ a
-then-nothing Done = refl
-then-nothing (Refused r) = refl
+pub then_nothing : (a : Answer) → and_then a Done ≡ a
+then_nothing Done = refl
+then_nothing (Refused r) = refl
 
-pub then-failed : {a : Answer} {r : Refusal} (b : Answer) → a ≡ Refused r → andThen a b ≡ Refused r
+pub then-failed : {a : Answer} {r : Refusal} (b : Answer) → a ≡ Refused r → and_then a b ≡ Refused r
 then-failed b e = rw e
 
 -- ---- a chain of checks says a number of its own
@@ -83,29 +83,29 @@ then-failed b e = rw e
 pub record Never (n : ℕ) (a : Answer) : Type 0 where
   pub never : ¬ (number a ≡ n)
 
-pub done-never : {n : ℕ} → 0 < n → Never n Done
-done-never h = record { never = λ e. omega arith }
+pub done_never : {n : ℕ} → 0 < n → Never n Done
+done_never h = record { never = λ e. omega arith }
 
-pub unless-never : {n : ℕ} (t : Bool) (r : Refusal) {a : Answer} → ¬ (refusalNumber r ≡ n) → Never n a → Never n (unless t r a)
-unless-never true r other rest = rest
-unless-never false r other rest = record { never = other }
+pub unless_never : {n : ℕ} (t : Bool) (r : Refusal) {a : Answer} → ¬ (refusal_number r ≡ n) → Never n a → Never n (unless t r a)
+unless_never true r other rest = rest
+unless_never false r other rest = record { never = other }
 
-pub then_never : {n : ℕ} {a b : Answer} → Never n a → Never n b → Never n (andThen a b)
+pub then_never : {n : ℕ} {a b : Answer} → Never n a → Never n b → Never n (and_then a b)
 then_never {a = Done} first rest = rest
 then_never {a = Refused r} first rest = first
 
 -- the number of a check that follows, and not of this one
-pub unless-says : (n : ℕ) (t : Bool) (r : Refusal) (a : Answer) → ¬ (refusalNumber r ≡ n)
+pub unless-says : (n : ℕ) (t : Bool) (r : Refusal) (a : Answer) → ¬ (refusal_number r ≡ n)
     → (number (unless t r a) ≡ n) ↔ ((t ≡ true) × (number a ≡ n))
 unless-says n true r a other = (λ e. (refl, e), λ (p, e). e)
 unless-says n false r a other = (λ e. absurd (other e), λ (p, e). absurd (false≢true p))
 
-pub then-says : {n : ℕ} {a : Answer} (b : Answer) → Never n a → (number (andThen a b) ≡ n) ↔ ((a ≡ Done) × (number b ≡ n))
+pub then-says : {n : ℕ} {a : Answer} (b : Answer) → Never n a → (number (and_then a b) ≡ n) ↔ ((a ≡ Done) × (number b ≡ n))
 then-says {a = Done} b first = (λ e. (refl, e), λ (p, e). e)
 then-says {a = Refused r} b first = (λ e. absurd (first.never e), λ (p, e). absurd (not_done p))
 
 -- the number of this check, and not of those that follow
-pub unless-refuses : (t : Bool) (r : Refusal) → (number (unless t r Done) ≡ refusalNumber r) ↔ (t ≡ false)
+pub unless-refuses : (t : Bool) (r : Refusal) → (number (unless t r Done) ≡ refusal_number r) ↔ (t ≡ false)
 unless-refuses true r = (λ e. absurd (refusal-not-zero r (sym e)), λ p. absurd (true≢false p))
 unless-refuses false r = (λ e. refl, λ p. refl)
 
@@ -113,65 +113,65 @@ unless-refuses false r = (λ e. refl, λ p. refl)
 pub decided-done : {F : Type 0} (d : Dec F) (r : Refusal) → (unless (decide d) r Done ≡ Done) ↔ F
 decided-done d r = (λ e. (decide_iff d).0 ((unless-done (decide d) r Done).0 e).0, λ h. (unless-done (decide d) r Done).1 ((decide_iff d).1 h, refl))
 
-pub decided-refuses : {F : Type 0} (d : Dec F) (r : Refusal) → (number (unless (decide d) r Done) ≡ refusalNumber r) ↔ ¬ F
+pub decided-refuses : {F : Type 0} (d : Dec F) (r : Refusal) → (number (unless (decide d) r Done) ≡ refusal_number r) ↔ ¬ F
 decided-refuses d r = (
   λ e h. true≢false (sym ((decide_iff d).1 h) ∙ (unless-refuses (decide d) r).0 e),
   λ none. (unless-refuses (decide d) r).1 (not-eq-not.0 (λ e. none ((decide_iff d).0 e))),
 )
 
 -- a test that says its number where F does not hold; no check behind it has that number
-pub fails-here : {t : Bool} {F : Type 0} (r : Refusal) {a : Answer} → (t ≡ true) ↔ F → Never (refusalNumber r) a
-    → (number (unless t r a) ≡ refusalNumber r) ↔ ¬ F
+pub fails-here : {t : Bool} {F : Type 0} (r : Refusal) {a : Answer} → (t ≡ true) ↔ F → Never (refusal_number r) a
+    → (number (unless t r a) ≡ refusal_number r) ↔ ¬ F
 fails-here {t = true} r f rest = (λ e. absurd (rest.never e), λ none. absurd (none (f.0 refl)))
 fails-here {t = false} r f rest = (λ e h. false≢true (f.1 h), λ none. refl)
 
 -- .. or a check behind it has that number, where G holds
-pub fails-or : {t : Bool} {F G : Type 0} (r : Refusal) (a : Answer) → (t ≡ true) ↔ F → (F × (number a ≡ refusalNumber r)) ↔ G
-    → (number (unless t r a) ≡ refusalNumber r) ↔ (¬ F ⊎ G)
-fails-or {t = true} r a f g = (λ e. inr (g.0 (f.0 refl, e)), ⊎_elim (λ none. absurd (none (f.0 refl))) (λ h. (g.1 h).1))
-fails-or {t = false} r a f g = (λ e. inl (λ h. false≢true (f.1 h)), λ e. refl)
+pub fails_or : {t : Bool} {F G : Type 0} (r : Refusal) (a : Answer) → (t ≡ true) ↔ F → (F × (number a ≡ refusal_number r)) ↔ G
+    → (number (unless t r a) ≡ refusal_number r) ↔ (¬ F ⊎ G)
+fails_or {t = true} r a f g = (λ e. inr (g.0 (f.0 refl, e)), ⊎_elim (λ none. absurd (none (f.0 refl))) (λ h. (g.1 h).1))
+fails_or {t = false} r a f g = (λ e. inl (λ h. false≢true (f.1 h)), λ e. refl)
 
-pub then-refuses : {n : ℕ} (a : Answer) {b : Answer} → 0 < n → Never n b → (number (andThen a b) ≡ n) ↔ (number a ≡ n)
+pub then-refuses : {n : ℕ} (a : Answer) {b : Answer} → 0 < n → Never n b → (number (and_then a b) ≡ n) ↔ (number a ≡ n)
 then-refuses Done some rest = (λ e. absurd (rest.never e), λ e. absurd (omega arith))
 then-refuses (Refused r) some rest = (λ e. e, λ e. e)
 
 -- this check, or where it passes the one that follows
-pub says-either : {n : ℕ} (a b : Answer) → 0 < n → (number (andThen a b) ≡ n) ↔ ((number a ≡ n) ⊎ ((a ≡ Done) × (number b ≡ n)))
-says-either Done b some = (λ e. inr (refl, e), ⊎_elim (λ e. absurd (omega arith)) (λ (p, e). e))
-says-either (Refused r) b some = (λ e. inl e, ⊎_elim (λ e. e) (λ (p, e). absurd (not_done p)))
+pub says_either : {n : ℕ} (a b : Answer) → 0 < n → (number (and_then a b) ≡ n) ↔ ((number a ≡ n) ⊎ ((a ≡ Done) × (number b ≡ n)))
+says_either Done b some = (λ e. inr (refl, e), ⊎_elim (λ e. absurd (omega arith)) (λ (p, e). e))
+says_either (Refused r) b some = (λ e. inl e, ⊎_elim (λ e. e) (λ (p, e). absurd (not_done p)))
 
 -- ---- a chain of checks says a number and names a word
 
-pub unless-names : (n : ℕ) (l : Location) (t : Bool) (r : Refusal) (a : Answer) → ¬ (refusalNumber r ≡ n)
+pub unless_names : (n : ℕ) (l : Location) (t : Bool) (r : Refusal) (a : Answer) → ¬ (refusal_number r ≡ n)
     → Names n l (unless t r a) ↔ ((t ≡ true) × Names n l a)
-unless-names n l true r a other = (λ e. (refl, e), λ (p, e). e)
-unless-names n l false r a other = (λ e. absurd (other e.0), λ (p, e). absurd (false≢true p))
+unless_names n l true r a other = (λ e. (refl, e), λ (p, e). e)
+unless_names n l false r a other = (λ e. absurd (other e.0), λ (p, e). absurd (false≢true p))
 
-pub then-names : {n : ℕ} {l : Location} {a : Answer} (b : Answer) → Never n a → Names n l (andThen a b) ↔ ((a ≡ Done) × Names n l b)
-then-names {a = Done} b first = (λ e. (refl, e), λ (p, e). e)
-then-names {a = Refused r} b first = (λ e. absurd (first.never e.0), λ (p, e). absurd (not_done p))
+pub then_names : {n : ℕ} {l : Location} {a : Answer} (b : Answer) → Never n a → Names n l (and_then a b) ↔ ((a ≡ Done) × Names n l b)
+then_names {a = Done} b first = (λ e. (refl, e), λ (p, e). e)
+then_names {a = Refused r} b first = (λ e. absurd (first.never e.0), λ (p, e). absurd (not_done p))
 
 -- this check, and none of those that follow
-pub names-first : {n : ℕ} {l : Location} (a : Answer) {b : Answer} → 0 < n → Never n b → Names n l (andThen a b) ↔ Names n l a
+pub names-first : {n : ℕ} {l : Location} (a : Answer) {b : Answer} → 0 < n → Never n b → Names n l (and_then a b) ↔ Names n l a
 names-first Done some rest = (λ e. absurd (rest.never e.0), λ (e, p). absurd (omega arith))
 names-first (Refused r) some rest = (λ e. e, λ e. e)
 
 -- this check, or where it passes the one that follows
-pub names-either : {n : ℕ} {l : Location} (a b : Answer) → 0 < n → Names n l (andThen a b) ↔ (Names n l a ⊎ ((a ≡ Done) × Names n l b))
-names-either Done b some = (λ e. inr (refl, e), ⊎_elim (λ (e, p). absurd (omega arith)) (λ (p, e). e))
-names-either (Refused r) b some = (λ e. inl e, ⊎_elim (λ e. e) (λ (p, e). absurd (not_done p)))
+pub names_either : {n : ℕ} {l : Location} (a b : Answer) → 0 < n → Names n l (and_then a b) ↔ (Names n l a ⊎ ((a ≡ Done) × Names n l b))
+names_either Done b some = (λ e. inr (refl, e), ⊎_elim (λ (e, p). absurd (omega arith)) (λ (p, e). e))
+names_either (Refused r) b some = (λ e. inl e, ⊎_elim (λ e. e) (λ (p, e). absurd (not_done p)))
 
 -- ---- outputs
 
-pub on-done : {A : Type 0} {a : Answer} (new old : A) → a ≡ Done → onDone a new old ≡ new
-on-done new old e = rw e
+pub on_done_lem : {A : Type 0} {a : Answer} (new old : A) → a ≡ Done → on_done a new old ≡ new
+on_done_lem new old e = rw e
 
 -- a value beside an answer, written by the same answer
-pub on-done-once : {A : Type 0} (a : Answer) (new none old : A) → onDone a (onDone a new none) old ≡ onDone a new old
-on-done-once Done new none old = refl
-on-done-once (Refused r) new none old = refl
+pub on-done_once : {A : Type 0} (a : Answer) (new none old : A) → on_done a (on_done a new none) old ≡ on_done a new old
+on-done_once Done new none old = refl
+on-done_once (Refused r) new none old = refl
 
 -- under any other number nothing has changed
-pub on-refusal : {A : Type 0} (a : Answer) (new old : A) → ¬ (number a ≡ 0) → onDone a new old ≡ old
-on-refusal Done new old other = absurd (other refl)
-on-refusal (Refused r) new old other = refl
+pub on_refusal : {A : Type 0} (a : Answer) (new old : A) → ¬ (number a ≡ 0) → on_done a new old ≡ old
+on_refusal Done new old other = absurd (other refl)
+on_refusal (Refused r) new old other = refl

@@ -17,9 +17,9 @@ use Rattle.answers.specs.declared.Refusal.TheVariants.{NotInvertible, KeyMismatc
 use Rattle.answers.specs.declared.Answer.{Answer}
 use Rattle.answers.specs.declared.Answer.TheVariants.{Done, Refused}
 use Rattle.answers.specs.declared.Location.{Location}
-use Rattle.answers.specs.Answers.{refusalNumber, number}
-use Rattle.answers.specs.Locations.{at, nowhere, inKeyPart, inKey, inEncapsulationPart, inEncapsulation, refusalLocation, location}
-use Rattle.answers.specs.Locations.{pack, code, codeNumber, codeLocation}
+use Rattle.answers.specs.Answers.{refusal_number, number}
+use Rattle.answers.specs.Locations.{at, nowhere, in_key_part, in_key, in_encapsulation_part, in_encapsulation, refusal_location, location}
+use Rattle.answers.specs.Locations.{pack, code, code_number, code_location}
 use Rattle.answers.proofs.AnswerLaws.{number-done, Never}
 
 -- ---- a field's value fits its bits
@@ -35,26 +35,26 @@ at-fits hr hp = record { kind_fits = hr; part-fits = hp }
 nowhere-fits : Fits nowhere
 nowhere-fits = at-fits (omega arith) (omega arith)
 
-key-part-fits : (r : ℕ) → r < 16 → (p : KeyPart) → Fits (inKeyPart r p)
+key-part-fits : (r : ℕ) → r < 16 → (p : KeyPart) → Fits (in_key_part r p)
 key-part-fits r h (A i) = at-fits h (omega arith)
 key-part-fits r h (B i) = at-fits h (omega arith)
 key-part-fits r h (StoredInverse i) = at-fits h (omega arith)
 
-key_fits : (k : KeyRecord) → Fits (inKey k)
+key_fits : (k : KeyRecord) → Fits (in_key k)
 key_fits (PublicKey p) = key-part-fits 1 (omega arith) p
 key_fits (SeededPublicKey p) = key-part-fits 2 (omega arith) p
 key_fits (SecretKey p) = key-part-fits 3 (omega arith) p
 
-encapsulation-part-fits : (r : ℕ) → r < 16 → (p : EncapsulationPart) → Fits (inEncapsulationPart r p)
+encapsulation-part-fits : (r : ℕ) → r < 16 → (p : EncapsulationPart) → Fits (in_encapsulation_part r p)
 encapsulation-part-fits r h (C1 i) = at-fits h (omega arith)
 encapsulation-part-fits r h (C2 i) = at-fits h (omega arith)
 
-encapsulation-fits : (c : EncapsulationRecord) → Fits (inEncapsulation c)
+encapsulation-fits : (c : EncapsulationRecord) → Fits (in_encapsulation c)
 encapsulation-fits (SealedEntry p) = encapsulation-part-fits 4 (omega arith) p
 encapsulation-fits (Encapsulation p) = encapsulation-part-fits 5 (omega arith) p
 
 -- eight bits for a number
-refusal-fits : (r : Refusal) → (refusalNumber r < 256) × Fits (refusalLocation r)
+refusal-fits : (r : Refusal) → (refusal_number r < 256) × Fits (refusal_location r)
 refusal-fits WrongLength = (omega arith, nowhere-fits)
 refusal-fits WrongMark = (omega arith, nowhere-fits)
 refusal-fits WrongVersion = (omega arith, nowhere-fits)
@@ -79,27 +79,27 @@ both-fit a en el = rw (en, el) (answer-fits a)
 
 -- ---- reading back
 
-packed-number : (n : ℕ) (l : Location) → n < 256 → codeNumber (pack n l) ≡ n
+packed-number : (n : ℕ) (l : Location) → n < 256 → code_number (pack n l) ≡ n
 packed-number n l h = omega arith
 
 packed-part : (n : ℕ) (l : Location) → n < 256 → l.part < 16 → pack n l / 256 % 16 ≡ l.part
 packed-part n l h hp = omega arith
 
-packed-kind : (n : ℕ) (l : Location) → n < 256 → Fits l → pack n l / 4096 % 16 ≡ l.kind
-packed-kind n l h f = omega (arith, f.part-fits, f.kind_fits)
+packed_kind : (n : ℕ) (l : Location) → n < 256 → Fits l → pack n l / 4096 % 16 ≡ l.kind
+packed_kind n l h f = omega (arith, f.part-fits, f.kind_fits)
 
-packed-index : (n : ℕ) (l : Location) → n < 256 → Fits l → l.index < 4096 → pack n l / 65536 % 4096 ≡ l.index
-packed-index n l h f hi = omega (arith, f.part-fits, f.kind_fits)
+packed_index : (n : ℕ) (l : Location) → n < 256 → Fits l → l.index < 4096 → pack n l / 65536 % 4096 ≡ l.index
+packed_index n l h f hi = omega (arith, f.part-fits, f.kind_fits)
 
-pub code-number : (a : Answer) → codeNumber (code a) ≡ number a
-code-number a = packed-number (number a) (location a) (answer-fits a).0
+pub code_number_lem : (a : Answer) → code_number (code a) ≡ number a
+code_number_lem a = packed-number (number a) (location a) (answer-fits a).0
 
-pub code-location : (a : Answer) → (location a).index < 4096 → codeLocation (code a) ≡ location a
-code-location a h =
+pub code_location_lem : (a : Answer) → (location a).index < 4096 → code_location (code a) ≡ location a
+code_location_lem a h =
     let fits = answer-fits a in
     let n = number a in
     let l = location a in
-    rw (packed-kind n l fits.0 fits.1, packed-part n l fits.0 fits.1.part-fits, packed-index n l fits.0 fits.1 h)
+    rw (packed_kind n l fits.0 fits.1, packed-part n l fits.0 fits.1.part-fits, packed_index n l fits.0 fits.1 h)
 
 -- no bit above the index is set
 pub code-within : (a : Answer) → code a < 268435456
@@ -118,11 +118,11 @@ code-done a = (λ e. (number-done a).0 (omega (arith, e)), λ e. ap code e)
 -- ---- which answers name a word
 
 -- those with the numbers 4 and 11
-pub names-none : (a : Answer) → ¬ (number a ≡ 4) → ¬ (number a ≡ 11) → location a ≡ nowhere
-names-none Done no_key no-encapsulation = refl
-names-none (Refused r) no_key no-encapsulation = of r no_key no-encapsulation
+pub names_none : (a : Answer) → ¬ (number a ≡ 4) → ¬ (number a ≡ 11) → location a ≡ nowhere
+names_none Done no_key no-encapsulation = refl
+names_none (Refused r) no_key no-encapsulation = of r no_key no-encapsulation
   where
-    of : (r : Refusal) → ¬ (refusalNumber r ≡ 4) → ¬ (refusalNumber r ≡ 11) → refusalLocation r ≡ nowhere
+    of : (r : Refusal) → ¬ (refusal_number r ≡ 4) → ¬ (refusal_number r ≡ 11) → refusal_location r ≡ nowhere
     of WrongLength no_key no-encapsulation = refl
     of WrongMark no_key no-encapsulation = refl
     of WrongVersion no_key no-encapsulation = refl
@@ -138,5 +138,5 @@ names-none (Refused r) no_key no-encapsulation = of r no_key no-encapsulation
     of InverseMismatch no_key no-encapsulation = refl
 
 -- the code of any other answer is its number
-pub code-is-number : (a : Answer) → Never 4 a → Never 11 a → code a ≡ number a
-code-is-number a no_key no-encapsulation = plain_code a (names-none a no_key.never no-encapsulation.never)
+pub code_is-number : (a : Answer) → Never 4 a → Never 11 a → code a ≡ number a
+code_is-number a no_key no-encapsulation = plain_code a (names_none a no_key.never no-encapsulation.never)

@@ -18,35 +18,35 @@ use Rattle.answers.specs.Answers.{number}
 
 -- ---- codes of records and of parts, as include/polka.h has them
 
-abbrev pub publicKey : ℕ
-publicKey = 1
+abbrev pub public_key : ℕ
+public_key = 1
 
-abbrev pub seededPublicKey : ℕ
-seededPublicKey = 2
+abbrev pub seeded_public_key : ℕ
+seeded_public_key = 2
 
-abbrev pub secretKey : ℕ
-secretKey = 3
+abbrev pub secret_key : ℕ
+secret_key = 3
 
-abbrev pub sealedEntry : ℕ
-sealedEntry = 4
+abbrev pub sealed_entry : ℕ
+sealed_entry = 4
 
 abbrev pub encapsulation : ℕ
 encapsulation = 5
 
-abbrev pub aPart : ℕ
-aPart = 1
+abbrev pub a_part : ℕ
+a_part = 1
 
-abbrev pub bPart : ℕ
-bPart = 2
+abbrev pub b_part : ℕ
+b_part = 2
 
-abbrev pub storedInversePart : ℕ
-storedInversePart = 3
+abbrev pub stored_inverse_part : ℕ
+stored_inverse_part = 3
 
-abbrev pub c1Part : ℕ
-c1Part = 4
+abbrev pub c1_part : ℕ
+c1_part = 4
 
-abbrev pub c2Part : ℕ
-c2Part = 5
+abbrev pub c2_part : ℕ
+c2_part = 5
 
 -- ---- the location
 
@@ -58,43 +58,43 @@ at r p i = record { kind = r; part = p; index = i }
 abbrev pub nowhere : Location
 nowhere = at 0 0 0
 
-abbrev pub inKeyPart : (r : ℕ) → KeyPart → Location
-inKeyPart r (A i) = at r aPart i
-inKeyPart r (B i) = at r bPart i
-inKeyPart r (StoredInverse i) = at r storedInversePart i
+abbrev pub in_key_part : (r : ℕ) → KeyPart → Location
+in_key_part r (A i) = at r a_part i
+in_key_part r (B i) = at r b_part i
+in_key_part r (StoredInverse i) = at r stored_inverse_part i
 
-abbrev pub inKey : KeyRecord → Location
-inKey (PublicKey p) = inKeyPart publicKey p
-inKey (SeededPublicKey p) = inKeyPart seededPublicKey p
-inKey (SecretKey p) = inKeyPart secretKey p
+abbrev pub in_key : KeyRecord → Location
+in_key (PublicKey p) = in_key_part public_key p
+in_key (SeededPublicKey p) = in_key_part seeded_public_key p
+in_key (SecretKey p) = in_key_part secret_key p
 
-abbrev pub inEncapsulationPart : (r : ℕ) → EncapsulationPart → Location
-inEncapsulationPart r (C1 i) = at r c1Part i
-inEncapsulationPart r (C2 i) = at r c2Part i
+abbrev pub in_encapsulation_part : (r : ℕ) → EncapsulationPart → Location
+in_encapsulation_part r (C1 i) = at r c1_part i
+in_encapsulation_part r (C2 i) = at r c2_part i
 
-abbrev pub inEncapsulation : EncapsulationRecord → Location
-inEncapsulation (SealedEntry p) = inEncapsulationPart sealedEntry p
-inEncapsulation (Encapsulation p) = inEncapsulationPart encapsulation p
+abbrev pub in_encapsulation : EncapsulationRecord → Location
+in_encapsulation (SealedEntry p) = in_encapsulation_part sealed_entry p
+in_encapsulation (Encapsulation p) = in_encapsulation_part encapsulation p
 
 -- under 4 and 11
-abbrev pub refusalLocation : Refusal → Location
-refusalLocation (KeyOutOfRange k) = inKey k
-refusalLocation (EncapsulationOutOfRange c) = inEncapsulation c
-refusalLocation WrongLength = nowhere
-refusalLocation WrongMark = nowhere
-refusalLocation WrongVersion = nowhere
-refusalLocation InvalidCode = nowhere
-refusalLocation NotInvertible = nowhere
-refusalLocation KeyMismatch = nowhere
-refusalLocation StreamExhausted = nowhere
-refusalLocation DecapsulationFailure = nowhere
-refusalLocation TagMismatch = nowhere
-refusalLocation WrongCount = nowhere
-refusalLocation InverseMismatch = nowhere
+abbrev pub refusal_location : Refusal → Location
+refusal_location (KeyOutOfRange k) = in_key k
+refusal_location (EncapsulationOutOfRange c) = in_encapsulation c
+refusal_location WrongLength = nowhere
+refusal_location WrongMark = nowhere
+refusal_location WrongVersion = nowhere
+refusal_location InvalidCode = nowhere
+refusal_location NotInvertible = nowhere
+refusal_location KeyMismatch = nowhere
+refusal_location StreamExhausted = nowhere
+refusal_location DecapsulationFailure = nowhere
+refusal_location TagMismatch = nowhere
+refusal_location WrongCount = nowhere
+refusal_location InverseMismatch = nowhere
 
 abbrev pub location : Answer → Location
 location Done = nowhere
-location (Refused r) = refusalLocation r
+location (Refused r) = refusal_location r
 
 -- the answer says the number n and names the location l
 abbrev pub Names : (n : ℕ) (l : Location) → Answer → Type 0
@@ -111,8 +111,8 @@ abbrev pub code : Answer → ℕ
 code a = pack (number a) (location a)
 
 -- what stands in these bits
-abbrev pub codeNumber : ℕ → ℕ
-codeNumber c = c % 256
+abbrev pub code_number : ℕ → ℕ
+code_number c = c % 256
 
-abbrev pub codeLocation : ℕ → Location
-codeLocation c = at (c / 4096 % 16) (c / 256 % 16) (c / 65536 % 4096)
+abbrev pub code_location : ℕ → Location
+code_location c = at (c / 4096 % 16) (c / 256 % 16) (c / 65536 % 4096)

@@ -2,8 +2,8 @@
 // the checks.
 ghost use Rattle.std.specs.Prelude.{◌≡◌};
 ghost use Rattle.answers.specs.declared.Answer.TheVariants.{Done};
-ghost use Rattle.answers.specs.Answers.{refusalNumber, number, unless, andThen, onDone};
-ghost use Rattle.answers.specs.Locations.{inKeyPart, inKey, inEncapsulationPart, inEncapsulation, refusalLocation, location, code};
+ghost use Rattle.answers.specs.Answers.{refusal_number, number, unless, and_then, on_done};
+ghost use Rattle.answers.specs.Locations.{in_key_part, in_key, in_encapsulation_part, in_encapsulation, refusal_location, location, code};
 
 // ---- answers
 
@@ -65,7 +65,7 @@ pub enum Answer {
 // ---- the number
 
 fn refusal_number(r: Refusal) -> u32
-    ensures { result ≡ refusalNumber r }
+    ensures { result ≡ refusal_number r }
 {
     match r {
         Refusal::WrongLength => 1,
@@ -105,7 +105,7 @@ pub struct Location {
 }
 
 fn in_key_part(kind: u32, p: KeyPart) -> Location
-    ensures { result ≡ inKeyPart kind p }
+    ensures { result ≡ in_key_part kind p }
 {
     match p {
         KeyPart::A(index) => Location {
@@ -127,7 +127,7 @@ fn in_key_part(kind: u32, p: KeyPart) -> Location
 }
 
 fn in_key(k: KeyRecord) -> Location
-    ensures { result ≡ inKey k }
+    ensures { result ≡ in_key k }
 {
     match k {
         KeyRecord::PublicKey(p) => in_key_part(1, p),
@@ -137,7 +137,7 @@ fn in_key(k: KeyRecord) -> Location
 }
 
 fn in_encapsulation_part(kind: u32, p: EncapsulationPart) -> Location
-    ensures { result ≡ inEncapsulationPart kind p }
+    ensures { result ≡ in_encapsulation_part kind p }
 {
     match p {
         EncapsulationPart::C1(index) => Location {
@@ -154,7 +154,7 @@ fn in_encapsulation_part(kind: u32, p: EncapsulationPart) -> Location
 }
 
 fn in_encapsulation(c: EncapsulationRecord) -> Location
-    ensures { result ≡ inEncapsulation c }
+    ensures { result ≡ in_encapsulation c }
 {
     match c {
         EncapsulationRecord::SealedEntry(p) => in_encapsulation_part(4, p),
@@ -163,7 +163,7 @@ fn in_encapsulation(c: EncapsulationRecord) -> Location
 }
 
 fn locate_refusal(r: Refusal) -> Location
-    ensures { result ≡ refusalLocation r }
+    ensures { result ≡ refusal_location r }
 {
     match r {
         Refusal::KeyOutOfRange(k) => in_key(k),
@@ -214,7 +214,7 @@ pub fn unless(passes: bool, refusal: Refusal) -> Answer
 
 // The first answer where it refuses, and else the second.
 pub fn and_then(first: Answer, second: Answer) -> Answer
-    ensures { result ≡ andThen first second }
+    ensures { result ≡ and_then first second }
 {
     if let Answer::Done = first {
         return second;
@@ -226,7 +226,7 @@ pub fn and_then(first: Answer, second: Answer) -> Answer
 
 // The value under Done, and 0 beside a refusal.
 pub fn shown(answer: Answer, value: u32) -> u32
-    ensures { result ≡ onDone answer value 0 }
+    ensures { result ≡ on_done answer value 0 }
 {
     if let Answer::Done = answer {
         return value;
@@ -236,7 +236,7 @@ pub fn shown(answer: Answer, value: u32) -> u32
 
 // Writes the value to a lent number under Done; beside a refusal that stays as it came.
 pub fn write_value(answer: Answer, value: u32, out: &mut u32)
-    ensures { out.new ≡ onDone answer value out.old }
+    ensures { out.new ≡ on_done answer value out.old }
 {
     if let Answer::Done = answer {
         *out = value;

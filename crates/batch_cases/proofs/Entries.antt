@@ -9,8 +9,8 @@ use lib.ListN.{length, take, drop, drop_of_length-le}
 use Rattle.lists.proofs.Parts.{take-to-end}
 use Rattle.vectors.proofs.Texts.{take-cut}
 
-drop-cut : (n : ℕ) (l : List ℕ) → drop (min n (length l)) l ≡ drop n l
-drop-cut n l = by (dec_le n (length l))
+drop_cut : (n : ℕ) (l : List ℕ) → drop (min n (length l)) l ≡ drop n l
+drop_cut n l = by (dec_le n (length l))
   where
     by : Dec (n ≤ length l) → drop (min n (length l)) l ≡ drop n l
     by (yes within) = let whole : min n (length l) ≡ n = omega arith in rw whole
@@ -20,4 +20,4 @@ pub front : (n : ℕ) (l : List ℕ) {end : ℕ} → end ≡ min n (length l) �
 front n l {end} e = ap (λ (k : ℕ). take k l) (sub-zero end ∙ e) ∙ take-cut n l
 
 pub behind : (n : ℕ) (l : List ℕ) {end : ℕ} → end ≡ min n (length l) → take (length l - end) (drop end l) ≡ drop n l
-behind n l {end} e = take-to-end end l ∙ ap (λ (k : ℕ). drop k l) e ∙ drop-cut n l
+behind n l {end} e = take-to-end end l ∙ ap (λ (k : ℕ). drop k l) e ∙ drop_cut n l

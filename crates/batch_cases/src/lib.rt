@@ -1,7 +1,7 @@
 // When a case of opening a batch agrees.
 ghost use Rattle.std.specs.Prelude.{◌≡◌};
 ghost use Rattle.case_outputs.specs.Outputs.{filled, output};
-ghost use Rattle.batch_cases.specs.BatchCases.{shown?, kept?, entriesAgree?, openedAgrees?, openBatchAfter, openBatchAgrees?};
+ghost use Rattle.batch_cases.specs.BatchCases.{is_shown, is_kept, entries_agree, opened_agrees, open_batch_after, open_batch_agrees};
 
 use batch_opening::OpenedBatch;
 use case_outputs::FILLER;
@@ -9,7 +9,7 @@ use octets::BLOCK_LENGTH;
 
 // Whether count and entries are the ones that are told, as under 0. A count may be of more entries than the output holds.
 fn is_shown(text: &[u8], count: u32, after: &[u8]) -> bool
-    ensures { result ≡ shown? text.now count after.now }
+    ensures { result ≡ is_shown text.now count after.now }
 {
     let told = vectors::number(text, 6);
     let end = octets::lesser(BLOCK_LENGTH * count as usize, after.len());
@@ -20,7 +20,7 @@ fn is_shown(text: &[u8], count: u32, after: &[u8]) -> bool
 
 // Whether nothing was told, counted or written, as under any other number.
 fn is_kept(text: &[u8], count: u32, after: &[u8]) -> bool
-    ensures { result ≡ kept? text.now count after.now }
+    ensures { result ≡ is_kept text.now count after.now }
 {
     (vectors::field(text, 6).len() == 0)
         & (vectors::field(text, 7).len() == 0)
@@ -29,7 +29,7 @@ fn is_kept(text: &[u8], count: u32, after: &[u8]) -> bool
 }
 
 fn entries_agree(text: &[u8], count: u32, after: &[u8]) -> bool
-    ensures { result ≡ entriesAgree? text.now count after.now }
+    ensures { result ≡ entries_agree text.now count after.now }
 {
     if vectors::number(text, 4) == 0 {
         return is_shown(text, count, after);
@@ -38,7 +38,7 @@ fn entries_agree(text: &[u8], count: u32, after: &[u8]) -> bool
 }
 
 fn opened_agrees(text: &[u8], opened: OpenedBatch, after: &[u8]) -> bool
-    ensures { result ≡ openedAgrees? text.now opened.answer opened.count after.now }
+    ensures { result ≡ opened_agrees text.now opened.answer opened.count after.now }
 {
     let answer = opened.answer;
     let count = opened.count;
@@ -47,8 +47,8 @@ fn opened_agrees(text: &[u8], opened: OpenedBatch, after: &[u8]) -> bool
 }
 
 fn open_batch_agrees(text: &[u8], out: &mut [u8]) -> bool
-    ensures value { result ≡ openBatchAgrees? text.now (filled out.old) }
-    ensures out_after { out.new ≡ openBatchAfter text.now (filled out.old) }
+    ensures value { result ≡ open_batch_agrees text.now (filled out.old) }
+    ensures out_after { out.new ≡ open_batch_after text.now (filled out.old) }
 {
     vectors::fill(out, FILLER);
     let opened = batch_opening::open_batch(
@@ -61,7 +61,7 @@ fn open_batch_agrees(text: &[u8], out: &mut [u8]) -> bool
 }
 
 pub fn open_batch_case_agrees(text: &[u8]) -> bool
-    ensures { result ≡ openBatchAgrees? text.now (output 3 text.now) }
+    ensures { result ≡ open_batch_agrees text.now (output 3 text.now) }
 {
     let mut out = case_outputs::output_buffer();
     let size = case_outputs::room(text, 3);

@@ -1,12 +1,12 @@
 // The call of a desk that opens a batch (document 02, No. 4), which is lent a secret key. Buffers may have any length; under any answer but
 // Done the output is as it came, and under Done what stands behind the entries.
 ghost use Rattle.std.specs.Prelude.{◌≡◌, ◌≤◌, length};
-ghost use Rattle.answers.specs.Answers.{number, onDone};
-ghost use Rattle.keys.specs.Keys.{tripleNoiseLength};
-ghost use Rattle.batch_records.specs.Batches.{batchOverhead, entriesLength, count_of};
-ghost use Rattle.batch_calls.specs.Calls.{openBatchAnswer, openBatchOut, openBatchCount};
+ghost use Rattle.answers.specs.Answers.{number, on_done};
+ghost use Rattle.keys.specs.Keys.{triple_noise_length};
+ghost use Rattle.batch_records.specs.Batches.{batch_overhead, entries_length, count_of};
+ghost use Rattle.batch_calls.specs.Calls.{open_batch_answer, open_batch_out, open_batch_count};
 ghost use Rattle.batch_calls.specs.Promises.{OpenBatchExact};
-ghost use Rattle.batch_opening.specs.Parts.{entriesAnswer, shownEntries};
+ghost use Rattle.batch_opening.specs.Parts.{entries_answer, shown_entries};
 
 use answers::{Answer, Refusal};
 use batch_records::{BATCH_OVERHEAD, BATCH_VERSION, BODY, ENTRIES_LENGTH};
@@ -23,10 +23,10 @@ pub struct OpenedBatch {
 // Of any key, and a batch, noise and an output that fit. A batch whose length does not fit its count is refused as it is read, and opened without a
 // body.
 fn open_records(key: &[u8], batch: &[u8], noise: &[u8], out: &mut [u8]) -> OpenedBatch
-    requires { (batchOverhead ≤ length batch.now) × (length noise.now ≡ tripleNoiseLength) × (length out.old ≡ entriesLength) }
-    ensures answer_value { result.answer ≡ entriesAnswer key.now batch.now noise.now }
-    ensures count_value { result.count ≡ onDone (entriesAnswer key.now batch.now noise.now) (count_of batch.now) 0 }
-    ensures out_after { out.new ≡ shownEntries key.now batch.now noise.now out.old }
+    requires { (batch_overhead ≤ length batch.now) × (length noise.now ≡ triple_noise_length) × (length out.old ≡ entries_length) }
+    ensures answer_value { result.answer ≡ entries_answer key.now batch.now noise.now }
+    ensures count_value { result.count ≡ on_done (entries_answer key.now batch.now noise.now) (count_of batch.now) 0 }
+    ensures out_after { out.new ≡ shown_entries key.now batch.now noise.now out.old }
 {
     let m = batch_records::count(batch);
     let between = batch_records::count_answer(m, batch.len());
@@ -53,9 +53,9 @@ fn open_records(key: &[u8], batch: &[u8], noise: &[u8], out: &mut [u8]) -> Opene
 // entries = body xor keystream where, of the blocks B1 to Bm of the body, tag = K1^(m+1) × L + K1^m × B1 + .. + K1 × Bm + K2, of what the ternary
 // triple of (c1, c2) derives, whatever the dummy. BATCH_OVERHEAD + BLOCK_LENGTH × m bytes give the first BLOCK_LENGTH × m of ENTRIES_LENGTH, and m.
 pub fn open_batch(key: &[u8], batch: &[u8], noise: &[u8], out: &mut [u8]) -> OpenedBatch
-    ensures answer_value { result.answer ≡ openBatchAnswer key.now batch.now noise.now (length out.old) }
-    ensures count_value { result.count ≡ openBatchCount key.now batch.now noise.now (length out.old) 0 }
-    ensures out_after { out.new ≡ openBatchOut key.now batch.now noise.now out.old }
+    ensures answer_value { result.answer ≡ open_batch_answer key.now batch.now noise.now (length out.old) }
+    ensures count_value { result.count ≡ open_batch_count key.now batch.now noise.now (length out.old) 0 }
+    ensures out_after { out.new ≡ open_batch_out key.now batch.now noise.now out.old }
     ensures open_batch_exact { OpenBatchExact key.now batch.now noise.now out.old 0 (number result.answer) out.new result.count }
 {
     let fits = (HEADER_LENGTH <= key.len())

@@ -4,16 +4,16 @@ use Rattle.answers.specs.declared.Refusal.TheVariants.{WrongLength, WrongCount}
 use Rattle.answers.specs.declared.Answer.{Answer}
 use Rattle.answers.specs.declared.Answer.TheVariants.{Done}
 use Rattle.answers.specs.Answers.{unless}
-use Rattle.batch_records.specs.Batches.{batchLength, count?}
+use Rattle.batch_records.specs.Batches.{batch_length, is_count}
 
 -- 12, then 1
-abbrev pub countAnswer : (m size : ℕ) → Answer
-countAnswer m size = unless (count? m) WrongCount (unless (eqb size (batchLength m)) WrongLength Done)
+abbrev pub count_answer : (m size : ℕ) → Answer
+count_answer m size = unless (is_count m) WrongCount (unless (eqb size (batch_length m)) WrongLength Done)
 
 -- the count is one, and the length fits it
-abbrev pub held? : (m size : ℕ) → Bool
-held? m size = count? m && eqb size (batchLength m)
+abbrev pub is_held : (m size : ℕ) → Bool
+is_held m size = is_count m && eqb size (batch_length m)
 
 -- no body where they do not
-abbrev pub bodyLength : (m size : ℕ) → ℕ
-bodyLength m size = cond (held? m size) (16 * m) 0
+abbrev pub body_length : (m size : ℕ) → ℕ
+body_length m size = cond (is_held m size) (16 * m) 0

@@ -1,10 +1,10 @@
 // Batches as bytes (document 02, No. 4): their layout, their count and what it is answered by, and the front, written.
 // The calls test first that a batch holds its overhead, or has the length of its count.
 ghost use Rattle.std.specs.Prelude.{◌≡◌, ◌++◌, ◌+◌, ◌≤◌, length, take, drop};
-ghost use Rattle.records.specs.Layout.{sealedEntryMark};
-ghost use Rattle.records.specs.Records.{recordBytes};
-ghost use Rattle.batch_records.specs.Batches.{bodyPlace, batchOverhead, entriesLength, count_of, countBlock, count?};
-ghost use Rattle.batch_records.specs.Read.{countAnswer, bodyLength};
+ghost use Rattle.records.specs.Layout.{sealed_entry_mark};
+ghost use Rattle.records.specs.Records.{record_bytes};
+ghost use Rattle.batch_records.specs.Batches.{body_place, batch_overhead, entries_length, count_of, count_block, is_count};
+ghost use Rattle.batch_records.specs.Read.{count_answer, body_length};
 
 use answers::{Answer, Refusal};
 use ntt::Element;
@@ -32,14 +32,14 @@ pub const ENTRIES_LENGTH: usize = BLOCK_LENGTH * MOST_ENTRIES;
 
 // Whether a batch may hold m entries.
 pub fn is_count(m: usize) -> bool
-    ensures { result ≡ count? m }
+    ensures { result ≡ is_count m }
 {
     (1 <= m) & (m <= MOST_ENTRIES)
 }
 
 // L, the block that stands before the body under the tag; the count of a record is its first two bytes.
 pub fn count_block(m: usize) -> [u8; BLOCK_LENGTH]
-    ensures { result ≡ countBlock m }
+    ensures { result ≡ count_block m }
 {
     let mut l = [0u8; BLOCK_LENGTH];
     l[0] = (m % 256) as u8;
@@ -61,7 +61,7 @@ pub fn count(bytes: &[u8]) -> usize
 // 12, then 1, by the count and the length of a batch: what is answered between its header and its words.
 pub fn count_answer(m: usize, size: usize) -> Answer
     requires { m ≤ 65535 }
-    ensures { result ≡ countAnswer m size }
+    ensures { result ≡ count_answer m size }
 {
     let counted = answers::unless(is_count(m), Refusal::WrongCount);
     let held = answers::unless(
@@ -73,9 +73,9 @@ pub fn count_answer(m: usize, size: usize) -> Answer
 
 // How many bytes the body of a batch has, none where its length does not fit the count. It lies within the batch.
 pub fn body_length(m: usize, size: usize) -> usize
-    requires { (m ≤ 65535) × (batchOverhead ≤ size) }
-    ensures value { result ≡ bodyLength m size }
-    ensures upper_bound { (result ≤ entriesLength) × (batchOverhead + result ≤ size) }
+    requires { (m ≤ 65535) × (batch_overhead ≤ size) }
+    ensures value { result ≡ body_length m size }
+    ensures upper_bound { (result ≤ entries_length) × (batch_overhead + result ≤ size) }
 {
     if is_count(m) & (size == BATCH_OVERHEAD + BLOCK_LENGTH * m) {
         return BLOCK_LENGTH * m;
@@ -87,8 +87,8 @@ pub fn body_length(m: usize, size: usize) -> usize
 
 // What stands before the body, the count from its block L; the rest of the buffer stays as it came.
 pub fn write_front(c1: Element, c2: Element, l: [u8; BLOCK_LENGTH], out: &mut [u8])
-    requires { bodyPlace ≤ length out.old }
-    ensures { out.new ≡ (recordBytes sealedEntryMark 2 c1 c2 ++ take 2 l) ++ drop bodyPlace out.old }
+    requires { body_place ≤ length out.old }
+    ensures { out.new ≡ (record_bytes sealed_entry_mark 2 c1 c2 ++ take 2 l) ++ drop body_place out.old }
 {
     records::write_record(SEALED_ENTRY_MARK, BATCH_VERSION, c1, c2, out);
     octets::copy(&l[0..2], &mut out[COUNT..BODY]);

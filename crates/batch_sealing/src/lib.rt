@@ -2,9 +2,9 @@
 // have any length; under any answer but Done the output is as it came.
 ghost use Rattle.std.specs.Prelude.{◌≡◌, ◌%◌, length};
 ghost use Rattle.scheme.specs.Answers as Struct;
-ghost use Rattle.answers.specs.Answers.{onDone};
-ghost use Rattle.batch_records.specs.Batches.{batchLength};
-ghost use Rattle.batch_calls.specs.Calls.{entries, sealBatchAnswer, protectedBatch, sealBatchOut};
+ghost use Rattle.answers.specs.Answers.{on_done};
+ghost use Rattle.batch_records.specs.Batches.{batch_length};
+ghost use Rattle.batch_calls.specs.Calls.{entries, seal_batch_answer, protected_batch, seal_batch_out};
 
 use answers::{Answer, Refusal};
 use batch_records::{BATCH_OVERHEAD, BODY};
@@ -15,8 +15,8 @@ use scheme::Triple;
 
 // Writes a batch of whole entries behind c1 and c2. The body is worked off where it stands in the record.
 fn write_batch(c1: Element, c2: Element, t: Triple, blocks: &[u8], out: &mut [u8])
-    requires { (length blocks.now % 16 ≡ 0) × (length out.old ≡ batchLength (entries blocks.now)) }
-    ensures { out.new ≡ protectedBatch c1 c2 (Struct.triple_of t) blocks.now }
+    requires { (length blocks.now % 16 ≡ 0) × (length out.old ≡ batch_length (entries blocks.now)) }
+    ensures { out.new ≡ protected_batch c1 c2 (Struct.triple_of t) blocks.now }
 {
     let r = t.r;
     let e1 = t.e1;
@@ -29,8 +29,8 @@ fn write_batch(c1: Element, c2: Element, t: Triple, blocks: &[u8], out: &mut [u8
 }
 
 fn write_sealed(answer: Answer, c1: Element, c2: Element, t: Triple, blocks: &[u8], out: &mut [u8])
-    requires { (length blocks.now % 16 ≡ 0) × (length out.old ≡ batchLength (entries blocks.now)) }
-    ensures { out.new ≡ onDone answer (protectedBatch c1 c2 (Struct.triple_of t) blocks.now) out.old }
+    requires { (length blocks.now % 16 ≡ 0) × (length out.old ≡ batch_length (entries blocks.now)) }
+    ensures { out.new ≡ on_done answer (protected_batch c1 c2 (Struct.triple_of t) blocks.now) out.old }
 {
     if let Answer::Done = answer {
         write_batch(c1, c2, t, blocks, out);
@@ -40,8 +40,8 @@ fn write_sealed(answer: Answer, c1: Element, c2: Element, t: Triple, blocks: &[u
 // (c1, c2) = (a × r + e1, b × r + e2), by the triple of TRIPLE_NOISE_LENGTH bytes, then body = entries xor keystream and, of its blocks B1 to Bm,
 // tag = K1^(m+1) × L + K1^m × B1 + .. + K1 × Bm + K2. BLOCK_LENGTH × m bytes give BATCH_OVERHEAD + BLOCK_LENGTH × m.
 pub fn seal_batch(key: &[u8], noise: &[u8], blocks: &[u8], out: &mut [u8]) -> Answer
-    ensures value { result ≡ sealBatchAnswer key.now noise.now blocks.now (length out.old) }
-    ensures out_after { out.new ≡ sealBatchOut key.now noise.now blocks.now out.old }
+    ensures value { result ≡ seal_batch_answer key.now noise.now blocks.now (length out.old) }
+    ensures out_after { out.new ≡ seal_batch_out key.now noise.now blocks.now out.old }
 {
     let size = blocks.len();
     if size % BLOCK_LENGTH != 0 {

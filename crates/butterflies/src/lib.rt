@@ -2,16 +2,16 @@
 ghost use Rattle.std.specs.Prelude.{◌≡◌, ◌<◌, length};
 ghost use Rattle.algebra.specs.Numbers.{Below};
 ghost use Rattle.twiddles.specs.Powers.{q, degree};
-ghost use Rattle.twiddles.specs.Factors.{forwardFactor, backwardFactor, forwardFactors, backwardFactors};
-ghost use Rattle.butterflies.specs.Layers.{forwardLayer, pairs, halves, unzippedLayer};
+ghost use Rattle.twiddles.specs.Factors.{forward_factor, backward_factor, forward_factors, backward_factors};
+ghost use Rattle.butterflies.specs.Layers.{forward_layer, pairs, halves, unzipped_layer};
 
 use twiddles::HALF;
 
 // A layer to values: x and y of a pair go to x + f y and x - f y, where f is its factor.
 pub fn forward_layer(r: &mut [u16], a: &[u16], w: &[u16], k: usize)
     requires r_len { (length r.old ≡ degree) × (length a.now ≡ degree) × Below q a.now × (k < 10) }
-    requires w_value { w.now ≡ forwardFactors }
-    ensures { r.new ≡ forwardLayer q 512 (forwardFactor k) a.now }
+    requires w_value { w.now ≡ forward_factors }
+    ensures { r.new ≡ forward_layer q 512 (forward_factor k) a.now }
 {
     for j in 0..HALF {
         let x = a[j];
@@ -48,8 +48,8 @@ pub fn halves(p: &mut [u16], v: &[u32])
 // A layer back, from the entries at even places, then those at odd places.
 pub fn backward_layer(r: &mut [u16], p: &[u16], w: &[u16], k: usize)
     requires r_len { (length r.old ≡ degree) × (length p.now ≡ degree) × Below q p.now × (k < 10) }
-    requires w_value { w.now ≡ backwardFactors }
-    ensures { r.new ≡ unzippedLayer q 512 (backwardFactor k) p.now }
+    requires w_value { w.now ≡ backward_factors }
+    ensures { r.new ≡ unzipped_layer q 512 (backward_factor k) p.now }
 {
     for j in 0..HALF {
         let x = p[j];

@@ -5,11 +5,11 @@ use Prim.Native.Nat.{ℕ}
 use lib.ListN.{length}
 use Rattle.answers.specs.declared.Answer.{Answer}
 use Rattle.call_cases.specs.declared.Call.{Call}
-use Rattle.call_cases.specs.CallCases.{callAnswer, callOut}
+use Rattle.call_cases.specs.CallCases.{call_answer, call_out}
 
 -- what a call does, known to be k
 pub called : (k : Call) (x y z out : List ℕ) {call : Call} {after : List ℕ} {answer : Answer} → call ≡ k
-    → (answer ≡ callAnswer k x y z (length out)) × (after ≡ callOut k x y z out)
-    → (answer ≡ callAnswer call x y z (length out)) × (after ≡ callOut call x y z out)
+    → (answer ≡ call_answer k x y z (length out)) × (after ≡ call_out k x y z out)
+    → (answer ≡ call_answer call x y z (length out)) × (after ≡ call_out call x y z out)
 called k x y z out {after = after} {answer = answer} e h =
-    subst (λ (c : Call). (answer ≡ callAnswer c x y z (length out)) × (after ≡ callOut c x y z out)) (sym e) h
+    subst (λ (c : Call). (answer ≡ call_answer c x y z (length out)) × (after ≡ call_out c x y z out)) (sym e) h

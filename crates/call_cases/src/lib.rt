@@ -1,7 +1,7 @@
 // When a case of a call with one output agrees.
 ghost use Rattle.std.specs.Prelude.{◌≡◌, ◌≤◌, length};
 ghost use Rattle.case_outputs.specs.Outputs.{filled, output};
-ghost use Rattle.call_cases.specs.CallCases.{callAnswer, callOut, sizeField, outAfter, callAgrees?};
+ghost use Rattle.call_cases.specs.CallCases.{call_answer, call_out, size_field, out_after, call_agrees};
 
 use answers::Answer;
 use case_outputs::FILLER;
@@ -21,8 +21,8 @@ pub enum Call {
 }
 
 fn run(call: Call, x: &[u8], y: &[u8], z: &[u8], out: &mut [u8]) -> Answer
-    ensures value { result ≡ callAnswer call x.now y.now z.now (length out.old) }
-    ensures out_after { out.new ≡ callOut call x.now y.now z.now out.old }
+    ensures value { result ≡ call_answer call x.now y.now z.now (length out.old) }
+    ensures out_after { out.new ≡ call_out call x.now y.now z.now out.old }
 {
     match call {
         Call::Encapsulate => sealing::encapsulate(x, y, out),
@@ -44,7 +44,7 @@ fn run(call: Call, x: &[u8], y: &[u8], z: &[u8], out: &mut [u8]) -> Answer
 }
 
 pub fn size_field(call: Call) -> usize
-    ensures { (result ≡ sizeField call) × (result ≤ 3) }
+    ensures { (result ≡ size_field call) × (result ≤ 3) }
 {
     match call {
         Call::Encapsulate => 2,
@@ -60,8 +60,8 @@ pub fn size_field(call: Call) -> usize
 }
 
 fn call_agrees(call: Call, text: &[u8], out: &mut [u8]) -> bool
-    ensures value { result ≡ callAgrees? call text.now (filled out.old) }
-    ensures out_after { out.new ≡ outAfter call text.now (filled out.old) }
+    ensures value { result ≡ call_agrees call text.now (filled out.old) }
+    ensures out_after { out.new ≡ out_after call text.now (filled out.old) }
 {
     vectors::fill(out, FILLER);
     let answer = run(
@@ -78,7 +78,7 @@ fn call_agrees(call: Call, text: &[u8], out: &mut [u8]) -> bool
 }
 
 pub fn call_case_agrees(call: Call, text: &[u8]) -> bool
-    ensures { result ≡ callAgrees? call text.now (output (sizeField call) text.now) }
+    ensures { result ≡ call_agrees call text.now (output (size_field call) text.now) }
 {
     let mut out = case_outputs::output_buffer();
     let size = case_outputs::room(text, size_field(call));

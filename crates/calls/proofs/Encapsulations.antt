@@ -10,21 +10,21 @@ use Rattle.scheme.specs.Scheme.{Triple, setting, masked}
 use Rattle.scheme.proofs.Givens.{givens}
 use Rattle.answers.specs.declared.Answer.TheVariants.{Done}
 use Rattle.records.specs.Records.{first_of, second_of}
-use Rattle.public_keys.specs.PublicKeys.{publicLength?, publicA, publicB, publicAnswer}
+use Rattle.public_keys.specs.PublicKeys.{is_public_length, public_a, public_b, public_answer}
 use Rattle.calls.specs.Promises.{Accepted, Ternaries, Encapsulates, PublicOf}
 use Rattle.public_keys.proofs.PublicLaws.{public-done}
 use Rattle.secret_keys.proofs.SecretLaws.{second-words}
 use Rattle.secret_keys.proofs.ElementLaws.{first-words, unit-invertible}
-use Rattle.calls.proofs.CheckExact.{accepted-iff}
+use Rattle.calls.proofs.CheckExact.{accepted_iff}
 
 pub masked-element : (a r e : List ℕ) → Element (masked a r e)
 masked-element = E.masked-element setting givens
 
 module _ {p k : List ℕ} (public : PublicOf p k) where
   -- the public check passes
-  pub public-accepted : Accepted k → (publicLength? (length p) ≡ true) × (publicAnswer p ≡ Done)
+  pub public-accepted : Accepted k → (is_public_length (length p) ≡ true) × (public_answer p ≡ Done)
   public-accepted accepted =
-      let (expanded, w, unit, matches) = (accepted-iff k).0 accepted in
+      let (expanded, w, unit, matches) = (accepted_iff k).0 accepted in
       (public-done p).1 (
         record {
           header = public.header;
@@ -35,7 +35,7 @@ module _ {p k : List ℕ} (public : PublicOf p k) where
       )
 
   -- the formula with the public record's a and b is that with the key's
-  pub encapsulates : {c1 c2 : List ℕ} (t : Triple) → Ternaries t → c1 ≡ masked (publicA p) t.r t.e1 → c2 ≡ masked (publicB p) t.r t.e2
+  pub encapsulates : {c1 c2 : List ℕ} (t : Triple) → Ternaries t → c1 ≡ masked (public_a p) t.r t.e1 → c2 ≡ masked (public_b p) t.r t.e2
       → Encapsulates (first_of k) (second_of k) c1 c2 t
   encapsulates t ternary e1 e2 = (
     ternary,

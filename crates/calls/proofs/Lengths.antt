@@ -14,8 +14,8 @@ use Rattle.answers.specs.declared.Answer.{Answer}
 use Rattle.answers.specs.declared.Location.{Location}
 use Rattle.answers.specs.Answers.{number, unless}
 use Rattle.answers.specs.Locations.{Names}
-use Rattle.answers.proofs.AnswerLaws.{unless-says, unless-names}
-use Rattle.public_keys.specs.PublicKeys.{publicLength?}
+use Rattle.answers.proofs.AnswerLaws.{unless-says, unless_names}
+use Rattle.public_keys.specs.PublicKeys.{is_public_length}
 
 -- ---- several tests of lengths at once
 
@@ -61,8 +61,8 @@ pub seeded-keygen-fits : (seed s e : List ℕ) (public secret : ℕ)
 seeded-keygen-fits seed s e public secret = five-fit (eqb (length seed) 32) (one-fits (length seed) 32) (length s) 512 (length e) 512 public 2085 secret 4357
 
 pub encapsulate-fits : (k t : List ℕ) (room : ℕ)
-    → (publicLength? (length k) && eqb (length t) 768 && eqb room 4096 ≡ true) ↔ ((publicLength? (length k) ≡ true) × (length t ≡ 768) × (room ≡ 4096))
-encapsulate-fits k t room = three-fit (publicLength? (length k)) Iff.rfl (length t) 768 room 4096
+    → (is_public_length (length k) && eqb (length t) 768 && eqb room 4096 ≡ true) ↔ ((is_public_length (length k) ≡ true) × (length t ≡ 768) × (room ≡ 4096))
+encapsulate-fits k t room = three-fit (is_public_length (length k)) Iff.rfl (length t) 768 room 4096
 
 pub decapsulate-fits : (k c d : List ℕ) (room : ℕ)
     → (leb 5 (length k) && eqb (length c) 4096 && eqb (length d) 768 && eqb room 768 ≡ true)
@@ -70,9 +70,9 @@ pub decapsulate-fits : (k c d : List ℕ) (room : ℕ)
 decapsulate-fits k c d room = four-fit (leb 5 (length k)) (header-fits k) (length c) 4096 (length d) 768 room 768
 
 pub seal-fits : (k noise entry : List ℕ) (room : ℕ)
-    → (publicLength? (length k) && eqb (length noise) 1536 && eqb (length entry) 16 && eqb room 4133 ≡ true)
-    ↔ ((publicLength? (length k) ≡ true) × (length noise ≡ 1536) × (length entry ≡ 16) × (room ≡ 4133))
-seal-fits k noise entry room = four-fit (publicLength? (length k)) Iff.rfl (length noise) 1536 (length entry) 16 room 4133
+    → (is_public_length (length k) && eqb (length noise) 1536 && eqb (length entry) 16 && eqb room 4133 ≡ true)
+    ↔ ((is_public_length (length k) ≡ true) × (length noise ≡ 1536) × (length entry ≡ 16) × (room ≡ 4133))
+seal-fits k noise entry room = four-fit (is_public_length (length k)) Iff.rfl (length noise) 1536 (length entry) 16 room 4133
 
 pub open-fits : (k e noise : List ℕ) (room : ℕ)
     → (leb 5 (length k) && eqb (length e) 4133 && eqb (length noise) 1536 && eqb room 16 ≡ true)
@@ -82,14 +82,14 @@ open-fits k e noise room = four-fit (leb 5 (length k)) (header-fits k) (length e
 -- ---- what is said behind the lengths
 
 -- a number of its own
-pub says-after-lengths : {fit : Bool} {F G : Type 0} (n : ℕ) (a : Answer) → 1 < n → (fit ≡ true) ↔ F → (number a ≡ n) ↔ G
+pub says-after_lengths : {fit : Bool} {F G : Type 0} (n : ℕ) (a : Answer) → 1 < n → (fit ≡ true) ↔ F → (number a ≡ n) ↔ G
     → (number (unless fit WrongLength a) ≡ n) ↔ (F × G)
-says-after-lengths {fit} n a h f g = Iff.trans (unless-says n fit WrongLength a (λ e. omega arith)) (Iff.and f g)
+says-after_lengths {fit} n a h f g = Iff.trans (unless-says n fit WrongLength a (λ e. omega arith)) (Iff.and f g)
 
 -- a number and a word
-pub names-after-lengths : {fit : Bool} {F G : Type 0} (n : ℕ) (l : Location) (a : Answer) → 1 < n → (fit ≡ true) ↔ F → Names n l a ↔ G
+pub names-after_lengths : {fit : Bool} {F G : Type 0} (n : ℕ) (l : Location) (a : Answer) → 1 < n → (fit ≡ true) ↔ F → Names n l a ↔ G
     → Names n l (unless fit WrongLength a) ↔ (F × G)
-names-after-lengths {fit} n l a h f g = Iff.trans (unless-names n l fit WrongLength a (λ e. omega arith)) (Iff.and f g)
+names-after_lengths {fit} n l a h f g = Iff.trans (unless_names n l fit WrongLength a (λ e. omega arith)) (Iff.and f g)
 
 -- a public key's length and what its checks say, R and N, among the lengths of the other buffers
 pub of-encapsulate : {Size Says R N H1 H2 : Type 0} → (Size × Says) ↔ (R × N) → ((Size × H1 × H2) × Says) ↔ (R × H1 × H2 × N)

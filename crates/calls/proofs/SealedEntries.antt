@@ -7,13 +7,13 @@ use native.Mathlib.Omega.{arith}
 use Rattle.scheme.specs.Scheme.{Triple, masked}
 use Rattle.gf128.specs.Bytes.{Block}
 use Rattle.derivation.specs.Derivation.{body_of, tag_of}
-use Rattle.records.specs.Records.{first_of, second_of, bodyPart, tagPart, recordBytes, sealedEntryBytes}
-use Rattle.calls.specs.Calls.{sealedWith}
+use Rattle.records.specs.Records.{first_of, second_of, body_part, tag_part, record_bytes, sealed_entry_bytes}
+use Rattle.calls.specs.Calls.{sealed_with}
 use Rattle.records.specs.WellFormed.{WellFormedEntry}
-use Rattle.records.specs.Layout.{sealedEntryMark, sealedEntryLength, tagPlace}
-use Rattle.records.proofs.Writing.{length-recordBytes}
-use Rattle.records.proofs.WrittenRecords.{length_both, part-behind, part_end, record-first, record-second, record-well-formed}
-use Rattle.derivation.proofs.Laws.{bodyOf-block, tagOf-block}
+use Rattle.records.specs.Layout.{sealed_entry_mark, sealed_entry_length, tag_place}
+use Rattle.records.proofs.Writing.{length-record_bytes}
+use Rattle.records.proofs.WrittenRecords.{length_both, part_behind, part_end, record-first, record-second, record_well-formed}
+use Rattle.derivation.proofs.Laws.{body_of-block, tag_of-block}
 use Rattle.calls.proofs.Encapsulations.{masked-element}
 
 -- ---- the parts of an entry that is sealed with the triple t
@@ -32,42 +32,42 @@ module _ (a b : List ℕ) (t : Triple) {entry : List ℕ} (h : Block entry) wher
   tag = tag_of t.r t.e1 t.e2 body
 
   abbrev front : List ℕ
-  front = recordBytes sealedEntryMark 1 c1 c2
+  front = record_bytes sealed_entry_mark 1 c1 c2
 
   body-block : Block body
-  body-block = bodyOf-block t.r t.e1 t.e2 h
+  body-block = body_of-block t.r t.e1 t.e2 h
 
   tag-block : Block tag
-  tag-block = tagOf-block t.r t.e1 t.e2 body
+  tag-block = tag_of-block t.r t.e1 t.e2 body
 
   -- by its parts, compared here once
-  is-sealed : sealedWith a b t entry ≡ sealedEntryBytes c1 c2 body tag
-  unfolding sealedWith
+  is-sealed : sealed_with a b t entry ≡ sealed_entry_bytes c1 c2 body tag
+  unfolding sealed_with
   is-sealed = refl
 
-  behind-front : sealedWith a b t entry ≡ front ++ (body ++ tag)
+  behind-front : sealed_with a b t entry ≡ front ++ (body ++ tag)
   behind-front = is-sealed ∙ append_assoc front body tag
 
-  pub sealed-first : first_of (sealedWith a b t entry) ≡ c1
-  sealed-first = ap first_of behind-front ∙ record-first sealedEntryMark 1 c1 c2 (body ++ tag) (masked-element _ _ _)
+  pub sealed-first : first_of (sealed_with a b t entry) ≡ c1
+  sealed-first = ap first_of behind-front ∙ record-first sealed_entry_mark 1 c1 c2 (body ++ tag) (masked-element _ _ _)
 
-  pub sealed-second : second_of (sealedWith a b t entry) ≡ c2
-  sealed-second = ap second_of behind-front ∙ record-second sealedEntryMark 1 c1 c2 (body ++ tag) (masked-element _ _ _)
+  pub sealed-second : second_of (sealed_with a b t entry) ≡ c2
+  sealed-second = ap second_of behind-front ∙ record-second sealed_entry_mark 1 c1 c2 (body ++ tag) (masked-element _ _ _)
 
-  pub sealed-body : bodyPart (sealedWith a b t entry) ≡ body
-  sealed-body = ap bodyPart is-sealed ∙ part-behind front body tag (length-recordBytes sealedEntryMark 1 c1 c2) body-block.size
+  pub sealed-body : body_part (sealed_with a b t entry) ≡ body
+  sealed-body = ap body_part is-sealed ∙ part_behind front body tag (length-record_bytes sealed_entry_mark 1 c1 c2) body-block.size
 
-  before-tag : length (front ++ body) ≡ tagPlace
-  before-tag = length_both front body (length-recordBytes sealedEntryMark 1 c1 c2) body-block.size
+  before-tag : length (front ++ body) ≡ tag_place
+  before-tag = length_both front body (length-record_bytes sealed_entry_mark 1 c1 c2) body-block.size
 
-  pub sealed-tag : tagPart (sealedWith a b t entry) ≡ tag
-  sealed-tag = ap tagPart is-sealed ∙ part_end (front ++ body) tag before-tag tag-block.size
+  pub sealed-tag : tag_part (sealed_with a b t entry) ≡ tag
+  sealed-tag = ap tag_part is-sealed ∙ part_end (front ++ body) tag before-tag tag-block.size
 
-  sealed-size : length (sealedWith a b t entry) ≡ sealedEntryLength
+  sealed-size : length (sealed_with a b t entry) ≡ sealed_entry_length
   sealed-size = ap length is-sealed ∙ length_both (front ++ body) tag before-tag tag-block.size
 
-  pub sealed-well-formed : WellFormedEntry (sealedWith a b t entry)
-  sealed-well-formed = record {
+  pub sealed_well-formed : WellFormedEntry (sealed_with a b t entry)
+  sealed_well-formed = record {
     size = sealed-size;
-    front = rw behind-front (record-well-formed sealedEntryMark 1 c1 c2 (body ++ tag) (omega arith) (masked-element _ _ _) (masked-element _ _ _));
+    front = rw behind-front (record_well-formed sealed_entry_mark 1 c1 c2 (body ++ tag) (omega arith) (masked-element _ _ _) (masked-element _ _ _));
   }

@@ -1,9 +1,9 @@
 // Answers and outputs of the cases of a public call: the buffers before the call, and when answer and outputs are what a case tells.
 ghost use Rattle.std.specs.Prelude.{◌≡◌, ◌≤◌};
 ghost use Rattle.lists.specs.Table.{zeros};
-ghost use Rattle.vectors.specs.Answers.{same?};
-ghost use Rattle.location_text.specs.Words.{locationText};
-ghost use Rattle.case_outputs.specs.Outputs.{room, outputAgrees?, answerTold?, answerAgrees?};
+ghost use Rattle.vectors.specs.Answers.{is_same};
+ghost use Rattle.location_text.specs.Words.{location_text};
+ghost use Rattle.case_outputs.specs.Outputs.{room, output_agrees, answer_told, answer_agrees};
 
 use answers::{Answer, Location};
 
@@ -25,7 +25,7 @@ pub fn room(text: &[u8], i: usize) -> usize
 }
 
 fn output_agrees(told: u32, bytes: &[u8], after: &[u8]) -> bool
-    ensures { result ≡ outputAgrees? told bytes.now after.now }
+    ensures { result ≡ output_agrees told bytes.now after.now }
 {
     if told == 0 {
         return vectors::same(after, bytes);
@@ -35,7 +35,7 @@ fn output_agrees(told: u32, bytes: &[u8], after: &[u8]) -> bool
 
 // Whether a location in words is this one.
 pub fn is_located(l: Location, words: &[u8]) -> bool
-    ensures { result ≡ same? (locationText l) words.now }
+    ensures { result ≡ is_same (location_text l) words.now }
 {
     let text = location_text::words(l);
     let bytes = text.bytes;
@@ -45,14 +45,14 @@ pub fn is_located(l: Location, words: &[u8]) -> bool
 
 // Whether an answer is the one that a case tells by its number and its location in words.
 pub fn is_told(answer: Answer, told: u32, words: &[u8]) -> bool
-    ensures { result ≡ answerTold? answer told words.now }
+    ensures { result ≡ answer_told answer told words.now }
 {
     (answers::number(answer) == told) & is_located(answers::locate(answer), words)
 }
 
 // Whether answer and output are what a case tells.
 pub fn answer_agrees(answer: Answer, told: u32, words: &[u8], bytes: &[u8], after: &[u8]) -> bool
-    ensures { result ≡ answerAgrees? answer told words.now bytes.now after.now }
+    ensures { result ≡ answer_agrees answer told words.now bytes.now after.now }
 {
     is_told(answer, told, words) & output_agrees(told, bytes, after)
 }

@@ -2,8 +2,8 @@
 // Nothing here branches on a secret or indexes by one.
 ghost use Rattle.std.specs.Prelude.{◌≡◌, ◌∷◌, ◌++◌, ◌%◌, ◌<◌, length};
 ghost use Rattle.gf128.specs.Bytes.{block};
-ghost use Rattle.triples.specs.Triple.{tripleBytes};
-ghost use Rattle.derivation.specs.Derivation.{keyMaterial, key0, key1, key2, keystream, underKeystream, body_of, tag_of, genuine?};
+ghost use Rattle.triples.specs.Triple.{triple_bytes};
+ghost use Rattle.derivation.specs.Derivation.{key_material, key0, key1, key2, keystream, under_keystream, body_of, tag_of, is_genuine};
 
 use ntt::Element;
 use octets::BLOCK_LENGTH;
@@ -28,7 +28,7 @@ struct Keys {
 
 // What the keys are hashed from: byte 0x01 and the triple.
 fn key_input(r: Element, e1: Element, e2: Element) -> [u8; KEY_INPUT]
-    ensures { result ≡ 0x01 ∷ tripleBytes r e1 e2 }
+    ensures { result ≡ 0x01 ∷ triple_bytes r e1 e2 }
 {
     let mut input = [0u8; KEY_INPUT];
     input[0] = 0x01;
@@ -37,7 +37,7 @@ fn key_input(r: Element, e1: Element, e2: Element) -> [u8; KEY_INPUT]
 }
 
 fn key_material(r: Element, e1: Element, e2: Element) -> [u8; KEY_MATERIAL]
-    ensures { result ≡ keyMaterial r e1 e2 }
+    ensures { result ≡ key_material r e1 e2 }
 {
     let input = key_input(r, e1, e2);
     let mut material = [0u8; KEY_MATERIAL];
@@ -94,7 +94,7 @@ fn keystream(k0: [u8; BLOCK_LENGTH], out: &mut [u8])
 // A text under the keystream of K0, in a buffer of its length: the body of an entry, or the entry of a body.
 pub fn under_keystream(k0: [u8; BLOCK_LENGTH], text: &[u8], out: &mut [u8])
     requires { length text.now ≡ length out.old }
-    ensures { out.new ≡ underKeystream k0 text.now }
+    ensures { out.new ≡ under_keystream k0 text.now }
 {
     keystream(k0, out);
     gf128::add_to(text, out);
@@ -140,7 +140,7 @@ pub fn verify(
     tag: [u8; BLOCK_LENGTH],
 ) -> Verified
     requires { length front.now % 16 ≡ 0 }
-    ensures genuine_value { result.genuine ≡ genuine? r e1 e2 (front.now ++ body.now) tag }
+    ensures genuine_value { result.genuine ≡ is_genuine r e1 e2 (front.now ++ body.now) tag }
     ensures k0_value { result.k0 ≡ key0 r e1 e2 }
 {
     let keys = derive_keys(r, e1, e2);

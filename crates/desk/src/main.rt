@@ -2,14 +2,14 @@
 // says the number and, where that is 0, the entry in hexadecimal.
 ghost use Rattle.std.specs.Prelude.{◌≡◌, ◌+◌};
 ghost use Rattle.lists.specs.Table.{zeros};
-ghost use Rattle.desk_opening.specs.Input.{inputLength};
+ghost use Rattle.desk_opening.specs.Input.{input_length};
 
 use desk_opening::INPUT_LENGTH;
 use libc::{STDIN_FILENO, STDOUT_FILENO};
 
 // One byte more than the input has, so that longer input is told from input that fits, and an endless one ends.
 fn input_buffer() -> [u8; INPUT_LENGTH + 1]
-    ensures { result ≡ zeros (inputLength + 1) }
+    ensures { result ≡ zeros (input_length + 1) }
 {
     [0; INPUT_LENGTH + 1]
 }

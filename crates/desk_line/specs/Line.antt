@@ -2,7 +2,7 @@
 use Rattle.std.specs.Prelude.{List, ℕ}
 use Rattle.answers.specs.Answers.{number}
 use Rattle.answer_line.specs.Line.{shown, line_of}
-use Rattle.desk_opening.specs.Input.{deskAnswer, deskEntry}
+use Rattle.desk_opening.specs.Input.{desk_answer, desk_entry}
 
-unfoldable pub deskLine : List ℕ → List ℕ
-deskLine input = line_of (number (deskAnswer input)) (shown (deskAnswer input) (deskEntry input))
+unfoldable pub desk_line : List ℕ → List ℕ
+desk_line input = line_of (number (desk_answer input)) (shown (desk_answer input) (desk_entry input))

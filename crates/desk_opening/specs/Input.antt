@@ -3,36 +3,36 @@ use Rattle.std.specs.Prelude.{List, ℕ, eqb, length}
 use Rattle.lists.specs.Table.{zeros}
 use Rattle.answers.specs.declared.Refusal.TheVariants.{WrongLength}
 use Rattle.answers.specs.declared.Answer.{Answer}
-use Rattle.answers.specs.Answers.{unless, andThen, onDone}
-use Rattle.records.specs.Layout.{secretKeyMark, secretKeyVersion, secretKeyLength, sealedEntryLength, blockLength}
-use Rattle.records.specs.Records.{part, headerAnswer}
-use Rattle.keys.specs.Keys.{tripleNoiseLength}
-use Rattle.calls.specs.Calls.{openAnswer, openOut}
+use Rattle.answers.specs.Answers.{unless, and_then, on_done}
+use Rattle.records.specs.Layout.{secret_key_mark, secret_key_version, secret_key_length, sealed_entry_length, block_length}
+use Rattle.records.specs.Records.{part, header_answer}
+use Rattle.keys.specs.Keys.{triple_noise_length}
+use Rattle.calls.specs.Calls.{open_answer, open_out}
 
 -- ---- the input: secret key, sealed entry, dummy noise
 
-abbrev pub inputLength : ℕ
-inputLength = 10026
+abbrev pub input_length : ℕ
+input_length = 10026
 
-abbrev pub keyPart : List ℕ → List ℕ
-keyPart input = part 0 secretKeyLength input
+abbrev pub key_part : List ℕ → List ℕ
+key_part input = part 0 secret_key_length input
 
-abbrev pub sealedPart : List ℕ → List ℕ
-sealedPart input = part 4357 sealedEntryLength input
+abbrev pub sealed_part : List ℕ → List ℕ
+sealed_part input = part 4357 sealed_entry_length input
 
-abbrev pub dummyPart : List ℕ → List ℕ
-dummyPart input = part 8490 tripleNoiseLength input
+abbrev pub dummy_part : List ℕ → List ℕ
+dummy_part input = part 8490 triple_noise_length input
 
 -- ---- what is answered
 
 -- 2, 3 for a key of any version but 1, then what opening answers
-abbrev pub partsAnswer : (key sealed dummy : List ℕ) → Answer
-partsAnswer key sealed dummy = andThen (headerAnswer secretKeyMark secretKeyVersion key) (openAnswer key sealed dummy blockLength)
+abbrev pub parts_answer : (key sealed dummy : List ℕ) → Answer
+parts_answer key sealed dummy = and_then (header_answer secret_key_mark secret_key_version key) (open_answer key sealed dummy block_length)
 
 -- 1 for an input of any other length
-unfoldable pub deskAnswer : List ℕ → Answer
-deskAnswer input = unless (eqb (length input) inputLength) WrongLength (partsAnswer (keyPart input) (sealedPart input) (dummyPart input))
+unfoldable pub desk_answer : List ℕ → Answer
+desk_answer input = unless (eqb (length input) input_length) WrongLength (parts_answer (key_part input) (sealed_part input) (dummy_part input))
 
 -- what opening writes into 16 zeros, which stay beside a refusal; shown only under Done
-unfoldable pub deskEntry : List ℕ → List ℕ
-deskEntry input = onDone (deskAnswer input) (openOut (keyPart input) (sealedPart input) (dummyPart input) (zeros blockLength)) (zeros blockLength)
+unfoldable pub desk_entry : List ℕ → List ℕ
+desk_entry input = on_done (desk_answer input) (open_out (key_part input) (sealed_part input) (dummy_part input) (zeros block_length)) (zeros block_length)

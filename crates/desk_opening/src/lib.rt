@@ -1,10 +1,10 @@
 // What the desk program answers, and the entry that it finds in an input of the right length. Its key is of version 1.
 ghost use Rattle.std.specs.Prelude.{◌≡◌, length};
 ghost use Rattle.lists.specs.Table.{zeros};
-ghost use Rattle.answers.specs.Answers.{onDone};
-ghost use Rattle.records.specs.Layout.{blockLength};
-ghost use Rattle.calls.specs.Calls.{openOut};
-ghost use Rattle.desk_opening.specs.Input.{inputLength, partsAnswer, deskAnswer, deskEntry};
+ghost use Rattle.answers.specs.Answers.{on_done};
+ghost use Rattle.records.specs.Layout.{block_length};
+ghost use Rattle.calls.specs.Calls.{open_out};
+ghost use Rattle.desk_opening.specs.Input.{input_length, parts_answer, desk_answer, desk_entry};
 
 use answers::{Answer, Refusal};
 use keys::TRIPLE_NOISE_LENGTH;
@@ -27,8 +27,8 @@ pub struct Opened {
 
 // Mark and version come first: opening takes other versions too.
 fn open_parts(key: &[u8], sealed: &[u8], dummy: &[u8]) -> Opened
-    ensures answer_value { result.answer ≡ partsAnswer key.now sealed.now dummy.now }
-    ensures result_value { result.entry ≡ onDone result.answer (openOut key.now sealed.now dummy.now (zeros blockLength)) (zeros blockLength) }
+    ensures answer_value { result.answer ≡ parts_answer key.now sealed.now dummy.now }
+    ensures result_value { result.entry ≡ on_done result.answer (open_out key.now sealed.now dummy.now (zeros block_length)) (zeros block_length) }
 {
     let mut entry = [0u8; BLOCK_LENGTH];
     let header = records::check_header(key, SECRET_KEY_MARK, SECRET_KEY_VERSION);
@@ -44,9 +44,9 @@ fn open_parts(key: &[u8], sealed: &[u8], dummy: &[u8]) -> Opened
 
 // Opens an input of the right length.
 pub fn open_input(input: &[u8]) -> Opened
-    requires { length input.now ≡ inputLength }
-    ensures answer_value { result.answer ≡ deskAnswer input.now }
-    ensures result_value { result.entry ≡ deskEntry input.now }
+    requires { length input.now ≡ input_length }
+    ensures answer_value { result.answer ≡ desk_answer input.now }
+    ensures result_value { result.entry ≡ desk_entry input.now }
 {
     open_parts(
         &input[0..SEALED],
@@ -57,7 +57,7 @@ pub fn open_input(input: &[u8]) -> Opened
 
 // What is answered to an input of any length.
 pub fn answer(input: &[u8]) -> Answer
-    ensures { result ≡ deskAnswer input.now }
+    ensures { result ≡ desk_answer input.now }
 {
     if input.len() != INPUT_LENGTH {
         return Answer::Refused(Refusal::WrongLength);

@@ -1,4 +1,4 @@
--- Laws of `putFront`, and of a buffer that is written part by part.
+-- Laws of `put_front`, and of a buffer that is written part by part.
 use mathlib.Core.Path.{◌≡◌, refl, sym, ap, subst, ◌∙◌}
 use mathlib.Core.List.{List, [], ◌∷◌, ◌++◌, append_assoc, append-nil}
 use Prim.Native.Nat.{ℕ, suc, ◌+◌, ◌<◌, ◌≤◌}
@@ -10,26 +10,26 @@ use lib.Seq.{take_at, drop_at, drop-drop, drop-cons, set_at, append_snoc, length
 use borrow.Author.Tests.{le-leb, lt-leb}
 use Rattle.lists.specs.Table.{table}
 use Rattle.lists.proofs.Tables.{length-table, table-append, table-zero, table-cons}
-use Rattle.encoding.specs.Buffers.{putFront}
+use Rattle.encoding.specs.Buffers.{put_front}
 
 -- there is room
-pub put-fits : (new old : List ℕ) → length new ≤ length old → putFront new old ≡ new ++ drop (length new) old
-unfolding putFront
+pub put-fits : (new old : List ℕ) → length new ≤ length old → put_front new old ≡ new ++ drop (length new) old
+unfolding put_front
 put-fits new old h = rw (le-leb (length new) (length old) h)
 
 -- the buffer is too short
-pub put-short : (new old : List ℕ) → length old < length new → putFront new old ≡ old
-unfolding putFront
-put-short new old h = rw (lt-leb (length new) (length old) h)
+pub put_short : (new old : List ℕ) → length old < length new → put_front new old ≡ old
+unfolding put_front
+put_short new old h = rw (lt-leb (length new) (length old) h)
 
 -- it has the length of what is written
-pub put-exact : (new old : List ℕ) → length new ≡ length old → putFront new old ≡ new
+pub put-exact : (new old : List ℕ) → length new ≡ length old → put_front new old ≡ new
 put-exact new old e =
     put-fits new old (omega arith) ∙ rw (drop_of_length-le old {i = length new} (omega arith)) (append-nil new)
 
 -- the first k entries were lent, and are now `new`
-pub put_front : (new old : List ℕ) {part : List ℕ} {k : ℕ} → length new ≡ k → k ≤ length old → part ≡ new → part ++ drop k old ≡ putFront new old
-put_front new old e h p = sym (put-fits new old (omega arith) ∙ rw (e, p))
+pub put_front_lem : (new old : List ℕ) {part : List ℕ} {k : ℕ} → length new ≡ k → k ≤ length old → part ≡ new → part ++ drop k old ≡ put_front new old
+put_front_lem new old e h p = sym (put-fits new old (omega arith) ∙ rw (e, p))
 
 -- ---- part by part: `front` is written, and what stands behind it is as it came; `&mut out[a..a + k]` is lent
 
@@ -42,9 +42,9 @@ put-plain front new old out a k {e} o f m q =
     let rest : drop k (drop a out) ≡ drop e old = ap (drop k) behind ∙ drop-drop k a old ∙ ap (λ (j : ℕ). drop j old) m in
     rw (before, q, rest) (sym (append_assoc front new (drop e old)))
 
--- it is what `putFront` makes of it
+-- it is what `put_front` makes of it
 pub put-part : (front new old out : List ℕ) (a k : ℕ) {e : ℕ} {p : List ℕ} → out ≡ front ++ drop a old → length front ≡ a → length new ≡ k → a + k ≡ e
-    → e ≤ length old → p ≡ putFront new (take k (drop a out))
+    → e ≤ length old → p ≡ put_front new (take k (drop a out))
     → take a out ++ (p ++ drop k (drop a out)) ≡ (front ++ new) ++ drop e old
 put-part front new old out a k {e} o f l m h p =
     let behind : drop a out ≡ drop a old = ap (drop a) o ∙ drop_at front (drop a old) a f in
@@ -52,7 +52,7 @@ put-part front new old out a k {e} o f l m h p =
     put-plain front new old out a k o f m (p ∙ put-exact new (take k (drop a out)) (l ∙ sym room))
 
 -- nothing was written before
-pub put_first : (new old : List ℕ) (k : ℕ) {p : List ℕ} → length new ≡ k → k ≤ length old → p ≡ putFront new (take k old) → p ++ drop k old ≡ new ++ drop k old
+pub put_first : (new old : List ℕ) (k : ℕ) {p : List ℕ} → length new ≡ k → k ≤ length old → p ≡ put_front new (take k old) → p ++ drop k old ≡ new ++ drop k old
 put_first new old k l h p = put-part [] new old old 0 k refl refl l (zero-add k) h p
 
 -- all of it is written
@@ -67,8 +67,8 @@ pub record Put (m : ℕ) (g : ℕ → ℕ) (old out : List ℕ) (i : ℕ) : Type
   pub size : length out ≡ length old
   pub same : out ≡ table i g ++ drop i old
 
-pub put-none : (m : ℕ) (g : ℕ → ℕ) (old : List ℕ) → m ≤ length old → Put m g old old 0
-put-none m g old h = record { within = omega arith; room = h; size = refl; same = rw (table-zero g) }
+pub put_none : (m : ℕ) (g : ℕ → ℕ) (old : List ℕ) → m ≤ length old → Put m g old old 0
+put_none m g old h = record { within = omega arith; room = h; size = refl; same = rw (table-zero g) }
 
 -- the next number is written, and e numbers are
 pub put_next : {m : ℕ} {g : ℕ → ℕ} {old out : List ℕ} {i v e : ℕ} → Put m g old out i → i < m → v ≡ g i → i + 1 ≡ e → Put m g old (set out i v) e
@@ -86,7 +86,7 @@ put_next {m} {g} {old} {out} {i} {v} p h r e =
     })
 
 -- all numbers are written
-pub put-done : {m : ℕ} {g : ℕ → ℕ} {old out : List ℕ} {i : ℕ} → Put m g old out i → m ≤ i → out ≡ putFront (table m g) old
+pub put-done : {m : ℕ} {g : ℕ → ℕ} {old out : List ℕ} {i : ℕ} → Put m g old out i → m ≤ i → out ≡ put_front (table m g) old
 put-done {m} {g} {old} {out} {i} p h =
     let all : i ≡ m = omega (arith, p.within) in
     let size : length (table m g) ≡ m = length-table m g in

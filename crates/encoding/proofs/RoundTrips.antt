@@ -11,13 +11,13 @@ use Rattle.algebra.specs.Numbers as N
 use Rattle.algebra.proofs.Numbers.{below_at}
 use Rattle.ring.specs.Ring.{q, n, Element}
 use Rattle.ring.specs.Centred.{Ternary}
-use Rattle.ring.proofs.Ternaries.{ternary-entry}
-use Rattle.encoding.specs.Digits.{digitAt}
-use Rattle.encoding.specs.Words.{word_at, words, words_to, bytes_of, elementOf, elementBytes}
-use Rattle.encoding.specs.Codes.{code_at, coefficientOf, code_of, firstInvalid, unpacked, packed_at, packed, firstInvalidCode, ternaryOf, ternaryBytes}
+use Rattle.ring.proofs.Ternaries.{ternary_entry}
+use Rattle.encoding.specs.Digits.{digit_at}
+use Rattle.encoding.specs.Words.{word_at, words, words_to, bytes_of, element_of, element_bytes}
+use Rattle.encoding.specs.Codes.{code_at, coefficient_of, code_of, first_invalid, unpacked, packed_at, packed, first_invalid_code, ternary_of, ternary_bytes}
 use Rattle.encoding.proofs.Digits.{digit-first, digit-in}
-use Rattle.encoding.proofs.Words.{words-entry, wordsTo-entry, wordsTo-append, length-bytesOf, bytesOf-entry}
-use Rattle.encoding.proofs.Codes.{Trit, code-coefficient, coefficient-code, none-invalid, unpacked-entry, unpacked-append, packed-code, length-ternaryBytes}
+use Rattle.encoding.proofs.Words.{words_entry, words_to_entry, words_to-append, length-bytes_of, bytes_of_entry}
+use Rattle.encoding.proofs.Codes.{Trit, code-coefficient, coefficient-code, none-invalid, unpacked_entry, unpacked-append, packed-code, length-ternary_bytes}
 
 -- numbers below q are below any bound of q
 below-most : (q m : ℕ) → q ≤ m → (a : List ℕ) → Below q a → Below m a
@@ -30,32 +30,32 @@ module _ (n : ℕ) where
   word_bytes : (a : List ℕ) (k : ℕ) → k < n → get_or a k 0 < 65536 → word_at (bytes_of n a) k ≡ get_or a k 0
   word_bytes a k h l =
       ap₂ (λ (x y : ℕ). x + 256 * y)
-      (bytesOf-entry n a (2 * k) (omega arith) ∙ digit-first 256 2 a k (omega arith))
-      (bytesOf-entry n a (2 * k + 1) (omega arith) ∙ digit-in 256 2 a k 1 (omega arith))
+      (bytes_of_entry n a (2 * k) (omega arith) ∙ digit-first 256 2 a k (omega arith))
+      (bytes_of_entry n a (2 * k + 1) (omega arith) ∙ digit-in 256 2 a k 1 (omega arith))
       ∙ omega arith
 
   -- words of 16 bits
-  pub wordsTo-bytes : (a : List ℕ) → length a ≡ n → Below 65536 a → words_to n (bytes_of n a) ≡ a
+  pub words_to-bytes : (a : List ℕ) → length a ≡ n → Below 65536 a → words_to n (bytes_of n a) ≡ a
   unfolding words_to
-  wordsTo-bytes a size below = sym (table_is n _ a 0 size (λ k h. sym (entry k h)))
+  words_to-bytes a size below = sym (table_is n _ a 0 size (λ k h. sym (entry k h)))
     where
       entry : (k : ℕ) → k < n → get_or (words (bytes_of n a)) k 0 ≡ get_or a k 0
       entry k h =
-          words-entry (bytes_of n a) k (omega (arith, length-bytesOf n a))
+          words_entry (bytes_of n a) k (omega (arith, length-bytes_of n a))
           ∙ word_bytes a k h (below_at 65536 (omega arith) a below k)
 
   -- 2 n bytes
-  pub bytes-wordsTo : (bytes : List ℕ) → length bytes ≡ 2 * n → Below 256 bytes → bytes_of n (words_to n bytes) ≡ bytes
+  pub bytes-words_to : (bytes : List ℕ) → length bytes ≡ 2 * n → Below 256 bytes → bytes_of n (words_to n bytes) ≡ bytes
   unfolding bytes_of
-  bytes-wordsTo bytes size below = sym (table_is (2 * n) _ bytes 0 size (λ i h. sym (entry i h (dec_lt (i % 2) 1))))
+  bytes-words_to bytes size below = sym (table_is (2 * n) _ bytes 0 size (λ i h. sym (entry i h (dec_lt (i % 2) 1))))
     where
       word : (i : ℕ) → i < 2 * n → get_or (words_to n bytes) (i / 2) 0 ≡ word_at bytes (i / 2)
-      word i h = wordsTo-entry n bytes (i / 2) (omega arith) ∙ words-entry bytes (i / 2) (omega arith)
+      word i h = words_to_entry n bytes (i / 2) (omega arith) ∙ words_entry bytes (i / 2) (omega arith)
 
       byte : (i : ℕ) → get_or bytes i 0 < 256
       byte i = below_at 256 (omega arith) bytes below i
 
-      entry : (i : ℕ) → i < 2 * n → Dec (i % 2 < 1) → digitAt 256 2 (words_to n bytes) i ≡ get_or bytes i 0
+      entry : (i : ℕ) → i < 2 * n → Dec (i % 2 < 1) → digit_at 256 2 (words_to n bytes) i ≡ get_or bytes i 0
       entry i h (yes l) =
           let even : i % 2 ≡ 0 = omega arith in
           let at : 2 * (i / 2) ≡ i = omega arith in
@@ -68,8 +68,8 @@ module _ (n : ℕ) where
   -- what a record reader finds where an element modulo q was written
   pub words-written : (q : ℕ) → q ≤ 65536 → (a rest : List ℕ) → N.Element q n a → words_to n (bytes_of n a ++ rest) ≡ a
   words-written q fits a rest e =
-      wordsTo-append n (bytes_of n a) rest (length-bytesOf n a)
-      ∙ wordsTo-bytes a e.size (below-most q 65536 fits a e.below)
+      words_to-append n (bytes_of n a) rest (length-bytes_of n a)
+      ∙ words_to-bytes a e.size (below-most q 65536 fits a e.below)
 
 -- ---- 4 m coefficients modulo q
 
@@ -92,16 +92,16 @@ module _ (q m : ℕ) (big : 2 < q) where
   unfolding unpacked
   unpacked-packed t size trit = sym (table_is (4 * m) _ t 0 size (λ k h. sym (entry k h)))
     where
-      entry : (k : ℕ) → k < 4 * m → coefficientOf q (code_at (packed q m t) k) ≡ get_or t k 0
-      entry k h = ap (λ (code : ℕ). coefficientOf q code) (packed-code q m t k h) ∙ coefficient-code q big (get_or t k 0) (trit k h)
+      entry : (k : ℕ) → k < 4 * m → coefficient_of q (code_at (packed q m t) k) ≡ get_or t k 0
+      entry k h = ap (λ (code : ℕ). coefficient_of q code) (packed-code q m t k h) ∙ coefficient-code q big (get_or t k 0) (trit k h)
 
   -- m bytes without a code 3
-  pub packed-unpacked : (bytes : List ℕ) → length bytes ≡ m → Below 256 bytes → firstInvalid m bytes ≡ 4 * m → packed q m (unpacked q m bytes) ≡ bytes
+  pub packed-unpacked : (bytes : List ℕ) → length bytes ≡ m → Below 256 bytes → first_invalid m bytes ≡ 4 * m → packed q m (unpacked q m bytes) ≡ bytes
   unfolding packed
   packed-unpacked bytes size below valid = sym (table_is m _ bytes 0 size (λ i h. sym (entry i h)))
     where
       code : (k : ℕ) → k < 4 * m → code_of q (get_or (unpacked q m bytes) k 0) ≡ code_at bytes k
-      code k h = ap (λ (c : ℕ). code_of q c) (unpacked-entry q m bytes k h) ∙ code-coefficient q big (code_at bytes k) (none-invalid m bytes valid k h)
+      code k h = ap (λ (c : ℕ). code_of q c) (unpacked_entry q m bytes k h) ∙ code-coefficient q big (code_at bytes k) (none-invalid m bytes valid k h)
 
       entry : (i : ℕ) → i < m → packed_at q (unpacked q m bytes) i ≡ get_or bytes i 0
       entry i h =
@@ -113,22 +113,22 @@ module _ (q m : ℕ) (big : 2 < q) where
 
 -- ---- ring elements
 
-pub elementOf-bytes : (a : List ℕ) → length a ≡ n → Below 65536 a → elementOf (elementBytes a) ≡ a
-elementOf-bytes a size below = wordsTo-bytes n a size below
+pub element_of-bytes : (a : List ℕ) → length a ≡ n → Below 65536 a → element_of (element_bytes a) ≡ a
+element_of-bytes a size below = words_to-bytes n a size below
 
-pub bytes-elementOf : (bytes : List ℕ) → length bytes ≡ 2048 → Below 256 bytes → elementBytes (elementOf bytes) ≡ bytes
-bytes-elementOf bytes size below = bytes-wordsTo n bytes size below
+pub bytes-element_of : (bytes : List ℕ) → length bytes ≡ 2048 → Below 256 bytes → element_bytes (element_of bytes) ≡ bytes
+bytes-element_of bytes size below = bytes-words_to n bytes size below
 
-pub elementOf-written : (a rest : List ℕ) → Element a → elementOf (elementBytes a ++ rest) ≡ a
-elementOf-written a rest e = words-written n q (omega arith) a rest e
+pub element_of-written : (a rest : List ℕ) → Element a → element_of (element_bytes a ++ rest) ≡ a
+element_of-written a rest e = words-written n q (omega arith) a rest e
 
 -- ---- the ring's ternary polynomials
 
-pub ternaryOf-bytes : (t : List ℕ) → Ternary t → ternaryOf (ternaryBytes t) ≡ t
-ternaryOf-bytes t e = unpacked-packed q 256 (omega arith) t e.0.size (ternary-entry t e)
+pub ternary_of-bytes : (t : List ℕ) → Ternary t → ternary_of (ternary_bytes t) ≡ t
+ternary_of-bytes t e = unpacked-packed q 256 (omega arith) t e.0.size (ternary_entry t e)
 
-pub bytes-ternaryOf : (bytes : List ℕ) → length bytes ≡ 256 → Below 256 bytes → firstInvalidCode bytes ≡ n → ternaryBytes (ternaryOf bytes) ≡ bytes
-bytes-ternaryOf bytes size below valid = packed-unpacked q 256 (omega arith) bytes size below valid
+pub bytes-ternary_of : (bytes : List ℕ) → length bytes ≡ 256 → Below 256 bytes → first_invalid_code bytes ≡ n → ternary_bytes (ternary_of bytes) ≡ bytes
+bytes-ternary_of bytes size below valid = packed-unpacked q 256 (omega arith) bytes size below valid
 
-pub ternaryOf-written : (t rest : List ℕ) → Ternary t → ternaryOf (ternaryBytes t ++ rest) ≡ t
-ternaryOf-written t rest e = unpacked-append q 256 (ternaryBytes t) rest (length-ternaryBytes t) ∙ ternaryOf-bytes t e
+pub ternary_of-written : (t rest : List ℕ) → Ternary t → ternary_of (ternary_bytes t ++ rest) ≡ t
+ternary_of-written t rest e = unpacked-append q 256 (ternary_bytes t) rest (length-ternary_bytes t) ∙ ternary_of-bytes t e

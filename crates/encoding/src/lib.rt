@@ -3,10 +3,10 @@
 // its buffer, and leaves a buffer that is too short as it came. Nothing here branches on a secret coefficient or indexes by one.
 ghost use Rattle.std.specs.Prelude.{◌≡◌, [], ◌∷◌, ◌+◌, ◌*◌, ◌<◌, get_or};
 ghost use Rattle.ring.specs.Ring.{q};
-ghost use Rattle.encoding.specs.Words.{elementOf, firstUnreduced, elementBytes};
-ghost use Rattle.encoding.specs.Codes.{coefficientOf, code_of, packedOf, firstInvalid, ternaryOf, firstInvalidCode, ternaryBytes};
-ghost use Rattle.encoding.specs.Header.{hasMark, versionOf, header};
-ghost use Rattle.encoding.specs.Buffers.{putFront};
+ghost use Rattle.encoding.specs.Words.{element_of, first_unreduced, element_bytes};
+ghost use Rattle.encoding.specs.Codes.{coefficient_of, code_of, packed_of, first_invalid, ternary_of, first_invalid_code, ternary_bytes};
+ghost use Rattle.encoding.specs.Header.{has_mark, version_of, header};
+ghost use Rattle.encoding.specs.Buffers.{put_front};
 
 use modq::Q;
 use ntt::{DEGREE, Element};
@@ -34,7 +34,7 @@ pub fn word(low: u8, high: u8) -> u16
 
 // The first 1,024 words, reduced or not.
 pub fn decode_element(bytes: &[u8]) -> Element
-    ensures { result ≡ elementOf bytes.now }
+    ensures { result ≡ element_of bytes.now }
 {
     let mut a = [0u16; DEGREE];
     let count = octets::lesser(bytes.len() / 2, DEGREE);
@@ -46,7 +46,7 @@ pub fn decode_element(bytes: &[u8]) -> Element
 
 // The place of the first word that is 59,393 or more, and 1,024 where there is none.
 pub fn first_unreduced(a: Element) -> usize
-    ensures { result ≡ firstUnreduced a }
+    ensures { result ≡ first_unreduced a }
 {
     for k in 0..DEGREE {
         if a[k] >= Q {
@@ -58,7 +58,7 @@ pub fn first_unreduced(a: Element) -> usize
 
 // Writes the 2,048 bytes of the words.
 pub fn encode_element(a: Element, out: &mut [u8])
-    ensures { out.new ≡ putFront (elementBytes a) out.old }
+    ensures { out.new ≡ put_front (element_bytes a) out.old }
 {
     if out.len() >= ELEMENT_LENGTH {
         for k in 0..DEGREE {
@@ -73,14 +73,14 @@ pub fn encode_element(a: Element, out: &mut [u8])
 
 // The coefficient of a code: 1 of 1, - 1 of 2, and 0 of every other.
 pub fn coefficient(code: u8) -> u16
-    ensures { result ≡ coefficientOf q code }
+    ensures { result ≡ coefficient_of q code }
 {
     (code == 1) as u16 + MINUS_ONE * ((code == 2) as u16)
 }
 
 // The coefficients of the first 256 bytes, whatever the codes are.
 pub fn decode_ternary(bytes: &[u8]) -> Element
-    ensures { result ≡ ternaryOf bytes.now }
+    ensures { result ≡ ternary_of bytes.now }
 {
     let mut t = [0u16; DEGREE];
     let count = octets::lesser(bytes.len(), TERNARY_LENGTH);
@@ -101,7 +101,7 @@ pub fn decode_ternary(bytes: &[u8]) -> Element
 
 // The place of the first code 3 in a byte, and 4 where there is none.
 fn invalid_in(b: u8) -> usize
-    ensures { result ≡ firstInvalid 1 (b ∷ []) }
+    ensures { result ≡ first_invalid 1 (b ∷ []) }
 {
     if b % 4 == 3 {
         return 0;
@@ -120,7 +120,7 @@ fn invalid_in(b: u8) -> usize
 
 // The place of the first code 3 in the first 256 bytes, and 1,024 where there is none. Nothing is told of the other codes.
 pub fn first_invalid_code(bytes: &[u8]) -> usize
-    ensures { result ≡ firstInvalidCode bytes.now }
+    ensures { result ≡ first_invalid_code bytes.now }
 {
     let count = octets::lesser(bytes.len(), TERNARY_LENGTH);
     for i in 0..count {
@@ -141,14 +141,14 @@ fn code(c: u16) -> u8
 
 // The byte of four coefficients.
 fn packed(c0: u16, c1: u16, c2: u16, c3: u16) -> u8
-    ensures { result ≡ packedOf q c0 c1 c2 c3 }
+    ensures { result ≡ packed_of q c0 c1 c2 c3 }
 {
     code(c0) + 4 * code(c1) + 16 * code(c2) + 64 * code(c3)
 }
 
 // Writes the 256 bytes of the coefficients' codes.
 pub fn encode_ternary(t: Element, out: &mut [u8])
-    ensures { out.new ≡ putFront (ternaryBytes t) out.old }
+    ensures { out.new ≡ put_front (ternary_bytes t) out.old }
 {
     if out.len() >= TERNARY_LENGTH {
         for i in 0..TERNARY_LENGTH {
@@ -162,7 +162,7 @@ pub fn encode_ternary(t: Element, out: &mut [u8])
 
 // Whether the first three bytes are this mark.
 pub fn has_mark(bytes: &[u8], mark: [u8; MARK_LENGTH]) -> bool
-    ensures { result ≡ hasMark mark bytes.now }
+    ensures { result ≡ has_mark mark bytes.now }
 {
     (bytes.len() >= MARK_LENGTH)
         & (octets::byte_at(bytes, 0) == mark[0])
@@ -172,14 +172,14 @@ pub fn has_mark(bytes: &[u8], mark: [u8; MARK_LENGTH]) -> bool
 
 // The version after the mark.
 pub fn version(bytes: &[u8]) -> u16
-    ensures { result ≡ versionOf bytes.now }
+    ensures { result ≡ version_of bytes.now }
 {
     word(octets::byte_at(bytes, 3), octets::byte_at(bytes, 4))
 }
 
 // Writes a mark and a version, five bytes.
 pub fn encode_header(mark: [u8; MARK_LENGTH], version: u16, out: &mut [u8])
-    ensures { out.new ≡ putFront (header mark version) out.old }
+    ensures { out.new ≡ put_front (header mark version) out.old }
 {
     if out.len() >= HEADER_LENGTH {
         out[0] = mark[0];

@@ -7,13 +7,13 @@ use lib.ListN.{length, get_or}
 use Rattle.lists.proofs.Tables.{table_same}
 use Rattle.algebra.specs.Ring.{CommRing}
 use Rattle.algebra.specs.Numbers as N
-use Rattle.algebra.specs.Numbers.{mulMod}
+use Rattle.algebra.specs.Numbers.{mul_mod}
 use Rattle.algebra.proofs.Ring.{subring}
 use Rattle.algebra.proofs.Ring as L
 use Rattle.algebra.proofs.Residues.{mod-mul-right}
 use Rattle.algebra.proofs.Elements as A
 use Rattle.exactness.specs.Setting.{Setting, Element, sum, difference, multiple, one}
-use Rattle.exactness.specs.Scheme.{keyElement, keyError, masked, recoveredR}
+use Rattle.exactness.specs.Scheme.{key_element, key_error, masked, recovered_r}
 use Rattle.exactness.specs.Givens.{Givens}
 
 module _ (S : Setting) (G : Givens S) where
@@ -38,21 +38,21 @@ module _ (S : Setting) (G : Givens S) where
   pub product-element : (a b : List ℕ) → Element S (S.product a b)
   product-element a b = subst (λ (m : ℕ). N.Element S.q m (S.product a b)) (sym G.degree) (G.is-product.element a b)
 
-  pub keyElement-element : (a s e : List ℕ) → Element S (keyElement S a s e)
-  unfolding keyElement
-  keyElement-element a s e = multiple-element 5 _
+  pub key_element-element : (a s e : List ℕ) → Element S (key_element S a s e)
+  unfolding key_element
+  key_element-element a s e = multiple-element 5 _
 
-  pub keyError-element : (a b s : List ℕ) → Element S (keyError S a b s)
-  unfolding keyError
-  keyError-element a b s = difference-element _ _
+  pub key_error-element : (a b s : List ℕ) → Element S (key_error S a b s)
+  unfolding key_error
+  key_error-element a b s = difference-element _ _
 
   pub masked-element : (a r e : List ℕ) → Element S (masked S a r e)
   unfolding masked
   masked-element a r e = sum-element _ e
 
-  pub recoveredR-element : (i s2 e2 : List ℕ) → Element S (recoveredR S i s2 e2)
-  unfolding recoveredR
-  recoveredR-element i s2 e2 = product-element _ i
+  pub recovered_r-element : (i s2 e2 : List ℕ) → Element S (recovered_r S i s2 e2)
+  unfolding recovered_r
+  recovered_r-element i s2 e2 = product-element _ i
 
   -- ---- the ring: that of crate algebra at p + 1, brought to n
 
@@ -105,9 +105,9 @@ module _ (S : Setting) (G : Givens S) where
   unfolding ◌⊖◌ elements
   minus_is x y = same-element _ _ (A.minus_is S.q G.q-positive S.n x.0 y.0)
 
-  pub multiple-is : (c : ℕ) (x : Elements) → c ⋆ x ≡ constant c ⊗ x
+  pub multiple_is : (c : ℕ) (x : Elements) → c ⋆ x ≡ constant c ⊗ x
   unfolding ◌⋆◌ elements constant
-  multiple-is c x = same-element _ _ (sym (subst Claim (sym G.degree) at_p x.1.size))
+  multiple_is c x = same-element _ _ (sym (subst Claim (sym G.degree) at_p x.1.size))
     where
       Claim : ℕ → Type 0
       Claim m = length x.0 ≡ m → S.product (N.constant S.q m c) x.0 ≡ N.scale S.q m c x.0
@@ -118,7 +118,7 @@ module _ (S : Setting) (G : Givens S) where
   -- 5 has the reciprocal `fifth`
   fifth-list : multiple S 5 (N.constant S.q S.n S.fifth) ≡ one S
   unfolding N.scale N.reduced
-  fifth-list = table_same S.n _ _ (λ k h. ap (mulMod S.q 5) (A.reduced-at S.q G.q-positive S.n (S.fifth ∷ []) k h) ∙ entry k)
+  fifth-list = table_same S.n _ _ (λ k h. ap (mul_mod S.q 5) (A.reduced-at S.q G.q-positive S.n (S.fifth ∷ []) k h) ∙ entry k)
     where
       entry : (k : ℕ) → 5 * (get_or (S.fifth ∷ []) k 0 % S.q) % S.q ≡ get_or (1 ∷ []) k 0 % S.q
       entry zero = mod-mul-right 5 S.fifth S.q ∙ sym (mod-mod (5 * S.fifth) S.q) ∙ ap (λ (x : ℕ). x % S.q) G.five-fifth
@@ -126,13 +126,13 @@ module _ (S : Setting) (G : Givens S) where
 
   five-fifth : constant 5 ⊗ constant S.fifth ≡ 𝟙
   unfolding ◌⋆◌ elements constant
-  five-fifth = sym (multiple-is 5 (constant S.fifth)) ∙ same-element (5 ⋆ constant S.fifth) 𝟙 fifth-list
+  five-fifth = sym (multiple_is 5 (constant S.fifth)) ∙ same-element (5 ⋆ constant S.fifth) 𝟙 fifth-list
 
   five-fifths : (x : Elements) → constant 5 ⊗ (constant S.fifth ⊗ x) ≡ x
-  five-fifths x = sym (L.times-assoc elements _ _ x) ∙ ap (λ (u : Elements). u ⊗ x) five-fifth ∙ L.one-times elements x
+  five-fifths x = sym (L.times_assoc elements _ _ x) ∙ ap (λ (u : Elements). u ⊗ x) five-fifth ∙ L.one-times elements x
 
-  pub five-of-fifth : (x : Elements) → 5 ⋆ (S.fifth ⋆ x) ≡ x
-  five-of-fifth x = simp multiple-is (five-fifths x)
+  pub five_of-fifth : (x : Elements) → 5 ⋆ (S.fifth ⋆ x) ≡ x
+  five_of-fifth x = simp multiple_is (five-fifths x)
 
-  pub fifth-of-five : (x : Elements) → S.fifth ⋆ (5 ⋆ x) ≡ x
-  fifth-of-five x = simp multiple-is (L.times-left-comm elements _ _ x ∙ five-fifths x)
+  pub fifth_of_five : (x : Elements) → S.fifth ⋆ (5 ⋆ x) ≡ x
+  fifth_of_five x = simp multiple_is (L.times-left_comm elements _ _ x ∙ five-fifths x)

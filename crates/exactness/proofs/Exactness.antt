@@ -43,5 +43,5 @@ module _ (S : Setting) (G : Givens S) (a b i s c1 c2 : List ℕ) (key : SoundKey
     answers = ((λ (t, m). (t, complete dummy t hd m)), (λ (t, e). (t, sound dummy t hd e)));
     refuses = ((λ f. fails dummy hd f (outcome dummy) refl), none dummy hd);
     unique = λ t u m k. found-same t u (sym (complete dummy t hd m) ∙ complete dummy u hd k);
-    dummy-free = λ other ho. same dummy other hd ho (outcome dummy) refl;
+    dummy_free = λ other ho. same dummy other hd ho (outcome dummy) refl;
   }

@@ -5,11 +5,11 @@ use Prim.Native.Nat.{ℕ}
 use Rattle.algebra.proofs.Ring.{ring}
 use Rattle.algebra.proofs.Ring as L
 use Rattle.exactness.specs.Setting.{Setting, Element, sum, difference, multiple, one}
-use Rattle.exactness.specs.Scheme.{Triple, keyElement, keyError, masked, summed, phase, recoveredR, recoveredE1}
+use Rattle.exactness.specs.Scheme.{Triple, key_element, key_error, masked, summed, phase, recovered_r, recovered_e1}
 use Rattle.exactness.specs.Givens.{Givens}
-use Rattle.exactness.specs.Promises.{phaseOf, phaseQuotient}
+use Rattle.exactness.specs.Promises.{phase_of, phase_quotient}
 use Rattle.exactness.proofs.Elements as E
-use Rattle.exactness.proofs.Elements.{elements, same-element, constant, minus_is, multiple-is, five-of-fifth, fifth-of-five, product-element}
+use Rattle.exactness.proofs.Elements.{elements, same-element, constant, minus_is, multiple_is, five_of-fifth, fifth_of_five, product-element}
 
 -- Each identity is one of the ring of elements first, and then one of the lists.
 module _ (S : Setting) (G : Givens S) where
@@ -33,9 +33,9 @@ module _ (S : Setting) (G : Givens S) where
 
   -- ---- products, sums and differences
 
-  pub product-comm : (x y : List ℕ) → Element S x → Element S y → S.product x y ≡ S.product y x
+  pub product_comm : (x y : List ℕ) → Element S x → Element S y → S.product x y ≡ S.product y x
   unfolding elements
-  product-comm x y hx hy = ap list (L.times-comm (elements S G) (x, hx) (y, hy))
+  product_comm x y hx hy = ap list (L.times_comm (elements S G) (x, hx) (y, hy))
 
   less-right : (x y : Elements) → x ⊕ y ⊖ y ≡ x
   less-right x y = simp (minus_is, ring)
@@ -67,30 +67,30 @@ module _ (S : Setting) (G : Givens S) where
       → five ⊗ (a ⊗ s ⊕ e) ⊗ r ⊕ e2 ⊕ neg (five ⊗ ((a ⊗ r ⊕ e1) ⊗ s)) ≡ e2 ⊕ five ⊗ (e ⊗ r ⊕ neg (e1 ⊗ s))
   split five a s e r e1 e2 = simp ring
 
-  split-by-5 : (a s e r e1 e2 : Elements) → 5 ⋆ (a ⊗ s ⊕ e) ⊗ r ⊕ e2 ⊖ 5 ⋆ ((a ⊗ r ⊕ e1) ⊗ s) ≡ e2 ⊕ 5 ⋆ (e ⊗ r ⊖ e1 ⊗ s)
-  split-by-5 a s e r e1 e2 = simp (minus_is, multiple-is) (split (constant S G 5) a s e r e1 e2)
+  split_by_5 : (a s e r e1 e2 : Elements) → 5 ⋆ (a ⊗ s ⊕ e) ⊗ r ⊕ e2 ⊖ 5 ⋆ ((a ⊗ r ⊕ e1) ⊗ s) ≡ e2 ⊕ 5 ⋆ (e ⊗ r ⊖ e1 ⊗ s)
+  split_by_5 a s e r e1 e2 = simp (minus_is, multiple_is) (split (constant S G 5) a s e r e1 e2)
 
   pub phase-split : (a s e : List ℕ) (t : Triple) → Element S a → Element S s → Element S e → Element S t.r → Element S t.e1 → Element S t.e2
-      → phaseOf S a (keyElement S a s e) s t ≡ sum S t.e2 (multiple S 5 (phaseQuotient S s e t))
-  unfolding phase masked keyElement phaseQuotient elements E.◌⊖◌ E.◌⋆◌
-  phase-split a s e t ha hs he hr h1 h2 = ap list (split-by-5 (a, ha) (s, hs) (e, he) (t.r, hr) (t.e1, h1) (t.e2, h2))
+      → phase_of S a (key_element S a s e) s t ≡ sum S t.e2 (multiple S 5 (phase_quotient S s e t))
+  unfolding phase masked key_element phase_quotient elements E.◌⊖◌ E.◌⋆◌
+  phase-split a s e t ha hs he hr h1 h2 = ap list (split_by_5 (a, ha) (s, hs) (e, he) (t.r, hr) (t.e1, h1) (t.e2, h2))
 
   -- ---- step 4: R and E1, from an encapsulation
 
   -- b times what the inverse of b has multiplied
   undivided : (b i x : Elements) → b ⊗ i ≡ 𝟙 → b ⊗ (x ⊗ i) ≡ x
-  undivided b i x h = L.times-left-comm (elements S G) b x i ∙ ap (λ (u : Elements). x ⊗ u) h ∙ L.times-one (elements S G) x
+  undivided b i x h = L.times-left_comm (elements S G) b x i ∙ ap (λ (u : Elements). x ⊗ u) h ∙ L.times-one (elements S G) x
 
   divided : (b i r e : Elements) → b ⊗ i ≡ 𝟙 → (b ⊗ r ⊕ e ⊖ e) ⊗ i ≡ r
-  divided b i r e h = ap (λ (u : Elements). u ⊗ i) (less-right (b ⊗ r) e) ∙ L.times-assoc (elements S G) b r i ∙ undivided b i r h
+  divided b i r e h = ap (λ (u : Elements). u ⊗ i) (less-right (b ⊗ r) e) ∙ L.times_assoc (elements S G) b r i ∙ undivided b i r h
 
   pub r-recovered : (b i r e : List ℕ) → Element S b → Element S i → Element S r → Element S e → S.product b i ≡ one S
-      → recoveredR S i (masked S b r e) e ≡ r
-  unfolding recoveredR masked elements E.◌⊖◌ constant
+      → recovered_r S i (masked S b r e) e ≡ r
+  unfolding recovered_r masked elements E.◌⊖◌ constant
   r-recovered b i r e hb hi hr he h = ap list (divided (b, hb) (i, hi) (r, hr) (e, he) (same-element S G _ _ h))
 
-  pub e1-recovered : (a r e : List ℕ) → Element S e → recoveredE1 S a (masked S a r e) r ≡ e
-  unfolding recoveredE1 masked elements E.◌⊖◌
+  pub e1-recovered : (a r e : List ℕ) → Element S e → recovered_e1 S a (masked S a r e) r ≡ e
+  unfolding recovered_e1 masked elements E.◌⊖◌
   e1-recovered a r e he = ap list (less-left (S.product a r, product-element S G a r) (e, he))
 
   -- ---- steps 4 and 5 back: whatever R and E2 are, the formula turns the result into c1 and c2
@@ -99,8 +99,8 @@ module _ (S : Setting) (G : Givens S) where
   first a r r' e' c = simp (minus_is, ring)
 
   pub first_back : (a r r' e' c : List ℕ) → Element S a → Element S r → Element S r' → Element S e' → Element S c
-      → masked S a (difference S r r') (difference S (recoveredE1 S a (summed S a r' e' c) r) e') ≡ c
-  unfolding recoveredE1 summed masked elements E.◌⊖◌
+      → masked S a (difference S r r') (difference S (recovered_e1 S a (summed S a r' e' c) r) e') ≡ c
+  unfolding recovered_e1 summed masked elements E.◌⊖◌
   first_back a r r' e' c ha hr hr' he' hc = ap list (first (a, ha) (r, hr) (r', hr') (e', he') (c, hc))
 
   second : (b i r' e' e c : Elements) → b ⊗ i ≡ 𝟙 → b ⊗ ((c ⊕ (b ⊗ r' ⊕ e') ⊖ e) ⊗ i ⊖ r') ⊕ (e ⊖ e') ≡ c
@@ -116,23 +116,23 @@ module _ (S : Setting) (G : Givens S) where
       left b r' e' e c = simp (minus_is, ring)
 
   pub second_back : (b i r' e' e c : List ℕ) → Element S b → Element S i → Element S r' → Element S e' → Element S e → Element S c
-      → S.product b i ≡ one S → masked S b (difference S (recoveredR S i (summed S b r' e' c) e) r') (difference S e e') ≡ c
-  unfolding recoveredR summed masked elements E.◌⊖◌ constant
+      → S.product b i ≡ one S → masked S b (difference S (recovered_r S i (summed S b r' e' c) e) r') (difference S e e') ≡ c
+  unfolding recovered_r summed masked elements E.◌⊖◌ constant
   second_back b i r' e' e c hb hi hr' he' he hc h =
       ap list (second (b, hb) (i, hi) (r', hr') (e', he') (e, he) (c, hc) (same-element S G _ _ h))
 
   -- ---- keys: 5 × (a × s + e) and b ÷ 5 - a × s undo each other
 
-  error-of : (x e : Elements) → S.fifth ⋆ (5 ⋆ (x ⊕ e)) ⊖ x ≡ e
-  error-of x e = ap (λ (u : Elements). u ⊖ x) (fifth-of-five S G (x ⊕ e)) ∙ less-left x e
+  error_of : (x e : Elements) → S.fifth ⋆ (5 ⋆ (x ⊕ e)) ⊖ x ≡ e
+  error_of x e = ap (λ (u : Elements). u ⊖ x) (fifth_of_five S G (x ⊕ e)) ∙ less-left x e
 
-  pub error-of-key : (a s e : List ℕ) → Element S e → keyError S a (keyElement S a s e) s ≡ e
-  unfolding keyError keyElement elements E.◌⊖◌ E.◌⋆◌
-  error-of-key a s e he = ap list (error-of (S.product a s, product-element S G a s) (e, he))
+  pub error_of-key : (a s e : List ℕ) → Element S e → key_error S a (key_element S a s e) s ≡ e
+  unfolding key_error key_element elements E.◌⊖◌ E.◌⋆◌
+  error_of-key a s e he = ap list (error_of (S.product a s, product-element S G a s) (e, he))
 
   key_of : (x b : Elements) → 5 ⋆ (x ⊕ (S.fifth ⋆ b ⊖ x)) ≡ b
-  key_of x b = ap (λ (u : Elements). 5 ⋆ u) (put_back x (S.fifth ⋆ b)) ∙ five-of-fifth S G b
+  key_of x b = ap (λ (u : Elements). 5 ⋆ u) (put_back x (S.fifth ⋆ b)) ∙ five_of-fifth S G b
 
-  pub key-of-error : (a b s : List ℕ) → Element S b → keyElement S a s (keyError S a b s) ≡ b
-  unfolding keyError keyElement elements E.◌⊖◌ E.◌⋆◌
-  key-of-error a b s hb = ap list (key_of (S.product a s, product-element S G a s) (b, hb))
+  pub key_of_error : (a b s : List ℕ) → Element S b → key_element S a s (key_error S a b s) ≡ b
+  unfolding key_error key_element elements E.◌⊖◌ E.◌⋆◌
+  key_of_error a b s hb = ap list (key_of (S.product a s, product-element S G a s) (b, hb))

@@ -8,11 +8,11 @@ use native.Mathlib.Omega.{arith}
 use lib.IntN.{nat_abs}
 use lib.ListN.{length, get_or, get_or-eq_default}
 use Rattle.algebra.specs.Residues.{Residue}
-use Rattle.algebra.specs.Numbers.{addMod, subMod, mulMod, sumBelow}
+use Rattle.algebra.specs.Numbers.{add_mod, sub_mod, mul_mod, sum_below}
 use Rattle.algebra.specs.Size.{magnitude, positive}
 use Rattle.algebra.specs.Size as A
 use Rattle.algebra.proofs.Residues.{ℤ/}
-use Rattle.algebra.proofs.Numbers.{of-addMod, of-subMod, of-mulMod}
+use Rattle.algebra.proofs.Numbers.{of-add_mod, of-sub_mod, of-mul_mod}
 use Rattle.algebra.proofs.Elements.{plus-at, minus-at, scale_at}
 use Rattle.algebra.proofs.Size.{count-residue, within-plus, within-neg, within-times, within-magnitude, magnitude-within, product-magnitude}
 use Rattle.exactness.specs.Setting.{Setting, Within, weight, sum, difference, multiple}
@@ -24,26 +24,26 @@ module _ (q : ℕ) (pos : 0 < q) where
   abbrev Near : ℕ → Residue q → Type 0
   Near k x = A.Within (ℤ/ q pos) k x
 
-  pub magnitude-sum : (j k x y : ℕ) → magnitude q x ≤ j → magnitude q y ≤ k → magnitude q (addMod q x y) ≤ j + k
+  pub magnitude-sum : (j k x y : ℕ) → magnitude q x ≤ j → magnitude q y ≤ k → magnitude q (add_mod q x y) ≤ j + k
   magnitude-sum j k x y hx hy =
-      magnitude-within q pos (j + k) (addMod q x y)
-      (subst (Near (j + k)) (sym (of-addMod q pos x y)) (within-plus (ℤ/ q pos) (within-magnitude q pos j x hx) (within-magnitude q pos k y hy)))
+      magnitude-within q pos (j + k) (add_mod q x y)
+      (subst (Near (j + k)) (sym (of-add_mod q pos x y)) (within-plus (ℤ/ q pos) (within-magnitude q pos j x hx) (within-magnitude q pos k y hy)))
 
-  pub magnitude-difference : (j k x y : ℕ) → magnitude q x ≤ j → magnitude q y ≤ k → magnitude q (subMod q x y) ≤ j + k
+  pub magnitude-difference : (j k x y : ℕ) → magnitude q x ≤ j → magnitude q y ≤ k → magnitude q (sub_mod q x y) ≤ j + k
   magnitude-difference j k x y hx hy =
-      magnitude-within q pos (j + k) (subMod q x y)
-      (subst (Near (j + k)) (sym (of-subMod q pos x y))
+      magnitude-within q pos (j + k) (sub_mod q x y)
+      (subst (Near (j + k)) (sym (of-sub_mod q pos x y))
       (within-plus (ℤ/ q pos) (within-magnitude q pos j x hx) (within-neg (ℤ/ q pos) (within-magnitude q pos k y hy))))
 
-  pub magnitude-multiple : (c k x : ℕ) → magnitude q x ≤ k → magnitude q (mulMod q c x) ≤ c * k
+  pub magnitude-multiple : (c k x : ℕ) → magnitude q x ≤ k → magnitude q (mul_mod q c x) ≤ c * k
   magnitude-multiple c k x h =
-      magnitude-within q pos (c * k) (mulMod q c x)
-      (subst (Near (c * k)) (sym (of-mulMod q pos c x))
+      magnitude-within q pos (c * k) (mul_mod q c x)
+      (subst (Near (c * k)) (sym (of-mul_mod q pos c x))
       (within-times (ℤ/ q pos) (positive c (le_refl c) (sym (count-residue q pos c))) (within-magnitude q pos k x h)))
 
 -- a sum of n terms of at most k each
-pub sum_bound : (n k : ℕ) (f : ℕ → ℕ) → ((i : ℕ) → i < n → f i ≤ k) → sumBelow n f ≤ n * k
-unfolding sumBelow
+pub sum_bound : (n k : ℕ) (f : ℕ → ℕ) → ((i : ℕ) → i < n → f i ≤ k) → sum_below n f ≤ n * k
+unfolding sum_below
 sum_bound zero k f h = omega arith
 sum_bound (suc n) k f h = omega (arith, h 0 (omega arith), sum_bound n k (λ i. f (suc i)) (λ i l. h (suc i) (omega arith)))
 
@@ -64,17 +64,17 @@ module _ (S : Setting) (G : Givens S) where
 
   pub sum-size : (j k : ℕ) (a b : List ℕ) → Within S j a → Within S k b → Within S (j + k) (sum S a b)
   sum-size j k a b wa wb i h =
-      rw (plus-at S.q G.q-positive S.n a b i h, G.centred-size (addMod S.q (get_or a i 0) (get_or b i 0)))
+      rw (plus-at S.q G.q-positive S.n a b i h, G.centred-size (add_mod S.q (get_or a i 0) (get_or b i 0)))
       (magnitude-sum S.q G.q-positive j k (get_or a i 0) (get_or b i 0) (magnitudes a wa i h) (magnitudes b wb i h))
 
   pub difference-size : (j k : ℕ) (a b : List ℕ) → Within S j a → Within S k b → Within S (j + k) (difference S a b)
   difference-size j k a b wa wb i h =
-      rw (minus-at S.q G.q-positive S.n a b i h, G.centred-size (subMod S.q (get_or a i 0) (get_or b i 0)))
+      rw (minus-at S.q G.q-positive S.n a b i h, G.centred-size (sub_mod S.q (get_or a i 0) (get_or b i 0)))
       (magnitude-difference S.q G.q-positive j k (get_or a i 0) (get_or b i 0) (magnitudes a wa i h) (magnitudes b wb i h))
 
   pub multiple-size : (c k : ℕ) (a : List ℕ) → Within S k a → Within S (c * k) (multiple S c a)
   multiple-size c k a w i h =
-      rw (scale_at S.q G.q-positive S.n c a i h, G.centred-size (mulMod S.q c (get_or a i 0)))
+      rw (scale_at S.q G.q-positive S.n c a i h, G.centred-size (mul_mod S.q c (get_or a i 0)))
       (magnitude-multiple S.q G.q-positive c k (get_or a i 0) (magnitudes a w i h))
 
   -- a coefficient of x × y is at most κ times the weight of x times the largest |y_j|

@@ -3,10 +3,10 @@ use mathlib.Core.Path.{◌≡◌, sym, subst}
 use mathlib.Core.List.{List}
 use Prim.Native.Nat.{ℕ}
 use Rattle.exactness.specs.Setting.{Setting, Element, one}
-use Rattle.exactness.specs.Scheme.{Triple, found, summed, recovered, withoutDummy, core, decapsulation}
+use Rattle.exactness.specs.Scheme.{Triple, found, summed, recovered, without_dummy, core, decapsulation}
 use Rattle.exactness.specs.Scheme.{TernaryTriple, Formula, Encapsulates}
 use Rattle.exactness.specs.Givens.{Givens}
-use Rattle.exactness.proofs.Elements.{recoveredR-element}
+use Rattle.exactness.proofs.Elements.{recovered_r-element}
 use Rattle.exactness.proofs.Identities.{first_back, second_back}
 use Rattle.exactness.proofs.Outcomes.{judged-found, found-ternary}
 
@@ -15,10 +15,10 @@ module _ (S : Setting) (G : Givens S) (a b i : List ℕ)
   -- whatever E2 is
   formula-back : (dummy : Triple) (c1 c2 e2 : List ℕ) → TernaryTriple S dummy → Element S c1 → Element S c2 → Element S e2
       → Formula S a b c1 c2
-      (withoutDummy S dummy (recovered S a i (summed S a dummy.r dummy.e1 c1) (summed S b dummy.r dummy.e2 c2) e2))
-  unfolding withoutDummy recovered
+      (without_dummy S dummy (recovered S a i (summed S a dummy.r dummy.e1 c1) (summed S b dummy.r dummy.e2 c2) e2))
+  unfolding without_dummy recovered
   formula-back dummy c1 c2 e2 hd h1 h2 he = record {
-    first = sym (first_back S G a _ dummy.r dummy.e1 c1 ha (recoveredR-element S G i _ e2) hd.r-ternary.0 hd.e1-ternary.0 h1);
+    first = sym (first_back S G a _ dummy.r dummy.e1 c1 ha (recovered_r-element S G i _ e2) hd.r-ternary.0 hd.e1-ternary.0 h1);
     second = sym (second_back S G b i dummy.r dummy.e2 e2 c2 hb hi hd.r-ternary.0 hd.e2-ternary.0 he h2 inverse);
   }
 

@@ -2,7 +2,7 @@
 -- their names say.
 use Rattle.std.specs.Prelude.{◌≡◌, true, List, ◌↔◌, ℕ, suc, ◌+◌, ◌*◌, ◌/◌, ◌≤◌, ◌<◌, nat_abs, length}
 use Rattle.algebra.specs.Residues.{Residue, residue}
-use Rattle.algebra.specs.Numbers.{mulMod}
+use Rattle.algebra.specs.Numbers.{mul_mod}
 use Rattle.algebra.specs.OnNumbers.{IsProduct}
 use Rattle.algebra.specs.Size.{Spread, magnitude}
 use Rattle.algebra.proofs.Residues.{ℤ/}
@@ -18,12 +18,12 @@ pub record Givens (S : Setting) : Type 0 where
   pub is-product : IsProduct (ℤ/ S.q q-positive) (residue S.q q-positive) S.q p rule S.product
   pub κ : ℕ
   pub spread : Spread (ℤ/ S.q q-positive) p rule κ
-  pub five-fifth : mulMod S.q 5 S.fifth ≡ 1
-  -- the size of a centred value is the distance to the nearest multiple of q, and `within?` tests it
+  pub five-fifth : mul_mod S.q 5 S.fifth ≡ 1
+  -- the size of a centred value is the distance to the nearest multiple of q, and `is_within` tests it
   pub centred-size : (c : ℕ) → nat_abs (S.centred c) ≡ magnitude S.q c
-  pub within-iff : (k : ℕ) (a : List ℕ) → length a ≡ S.n → (S.within? k a ≡ true) ↔ Within S k a
+  pub within_iff : (k : ℕ) (a : List ℕ) → length a ≡ S.n → (S.is_within k a ≡ true) ↔ Within S k a
   -- the remainders of e + 5 w are e, where e is between - 2 and 2 and w is so small that nothing wraps
   pub remainders-element : (m : List ℕ) → Element S (S.remainders m)
-  pub remainders-are : (k : ℕ) (e w : List ℕ) → 2 + 5 * k ≤ S.q / 2 → Bounded S 2 e → Within S k w → S.remainders (sum S e (multiple S 5 w)) ≡ e
+  pub remainders_are : (k : ℕ) (e w : List ℕ) → 2 + 5 * k ≤ S.q / 2 → Bounded S 2 e → Within S k w → S.remainders (sum S e (multiple S 5 w)) ≡ e
   -- the noise bound: nothing wraps, whatever the key and the sums
   pub noise-bound : 2 + 20 * κ * S.n ≤ S.q / 2

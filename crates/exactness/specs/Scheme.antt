@@ -26,12 +26,12 @@ module _ (S : Setting) where
   -- ---- keys
 
   -- b = 5 × (a × s + e)
-  unfoldable pub keyElement : (a s e : List ℕ) → List ℕ
-  keyElement a s e = multiple S 5 (sum S (S.product a s) e)
+  unfoldable pub key_element : (a s e : List ℕ) → List ℕ
+  key_element a s e = multiple S 5 (sum S (S.product a s) e)
 
   -- b ÷ 5 - a × s: the e of a sound key
-  unfoldable pub keyError : (a b s : List ℕ) → List ℕ
-  keyError a b s = difference S (multiple S S.fifth b) (S.product a s)
+  unfoldable pub key_error : (a b s : List ℕ) → List ℕ
+  key_error a b s = difference S (multiple S S.fifth b) (S.product a s)
 
   -- ---- encapsulation: the published formula is c1 = a × r + e1, c2 = b × r + e2
 
@@ -49,35 +49,35 @@ module _ (S : Setting) where
   phase s2 s1s = difference S s2 (multiple S 5 s1s)
 
   -- step 4
-  unfoldable pub recoveredR : (i s2 e2 : List ℕ) → List ℕ
-  recoveredR i s2 e2 = S.product (difference S s2 e2) i
+  unfoldable pub recovered_r : (i s2 e2 : List ℕ) → List ℕ
+  recovered_r i s2 e2 = S.product (difference S s2 e2) i
 
-  unfoldable pub recoveredE1 : (a s1 r : List ℕ) → List ℕ
-  recoveredE1 a s1 r = difference S s1 (S.product a r)
+  unfoldable pub recovered_e1 : (a s1 r : List ℕ) → List ℕ
+  recovered_e1 a s1 r = difference S s1 (S.product a r)
 
   -- step 5, of R, E1, E2
-  unfoldable pub withoutDummy : (dummy t : Triple) → Triple
-  withoutDummy dummy t = record {
+  unfoldable pub without_dummy : (dummy t : Triple) → Triple
+  without_dummy dummy t = record {
     r = difference S t.r dummy.r;
     e1 = difference S t.e1 dummy.e1;
     e2 = difference S t.e2 dummy.e2;
   }
 
   -- the test of step 4: R and E1 between - 2 and 2
-  unfoldable pub recovers? : Triple → Bool
-  recovers? t = S.within? 2 t.r && S.within? 2 t.e1
+  unfoldable pub recovers : Triple → Bool
+  recovers t = S.is_within 2 t.r && S.is_within 2 t.e1
 
   -- the test of step 5: all three ternary
-  unfoldable pub ternary? : Triple → Bool
-  ternary? t = S.within? 1 t.r && S.within? 1 t.e1 && S.within? 1 t.e2
+  unfoldable pub is_ternary : Triple → Bool
+  is_ternary t = S.is_within 1 t.r && S.is_within 1 t.e1 && S.is_within 1 t.e2
 
   -- step 4, from the sums and E2
   unfoldable pub recovered : (a i s1 s2 e2 : List ℕ) → Triple
-  recovered a i s1 s2 e2 = record { r = recoveredR i s2 e2; e1 = recoveredE1 a s1 (recoveredR i s2 e2); e2 = e2 }
+  recovered a i s1 s2 e2 = record { r = recovered_r i s2 e2; e1 = recovered_e1 a s1 (recovered_r i s2 e2); e2 = e2 }
 
   -- the tests of steps 4 and 5, of R, E1, E2
   unfoldable pub judged : (dummy t : Triple) → Outcome
-  judged dummy t = provided (recovers? t) (provided (ternary? (withoutDummy dummy t)) (found (withoutDummy dummy t)))
+  judged dummy t = provided (recovers t) (provided (is_ternary (without_dummy dummy t)) (found (without_dummy dummy t)))
 
   -- steps 2 to 5, from the sums and the product of the first with s; step 3 is `remainders`
   unfoldable pub core : (a i : List ℕ) (dummy : Triple) (s1 s2 s1s : List ℕ) → Outcome
@@ -110,7 +110,7 @@ module _ (S : Setting) where
 
   -- b = 5 × (a × s + e) for some ternary e
   abbrev pub Matches : (a b s : List ℕ) → Type 0
-  Matches a b s = (e : List ℕ) × Ternary S e × (b ≡ keyElement a s e)
+  Matches a b s = (e : List ℕ) × Ternary S e × (b ≡ key_element a s e)
 
   -- a sound key, and the inverse of its b
   pub record SoundKey (a b i s : List ℕ) : Type 0 where

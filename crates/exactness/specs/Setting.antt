@@ -1,7 +1,7 @@
 -- A setting of the scheme: a ring of polynomials modulo q with its rule for X^n, and what the scheme asks of centred coefficients.
 use Rattle.std.specs.Prelude.{Bool, List, ℕ, ◌≤◌, ◌<◌, ℤ, nat_abs, get_or}
 use Rattle.algebra.specs.Numbers as N
-use Rattle.algebra.specs.Numbers.{sumBelow}
+use Rattle.algebra.specs.Numbers.{sum_below}
 
 pub record Setting : Type 0 where
   -- the modulus, the degree, and the reciprocal of 5 modulo q
@@ -15,7 +15,7 @@ pub record Setting : Type 0 where
   -- the remainder by 5 between - 2 and 2 of every centred coefficient
   pub remainders : List ℕ → List ℕ
   -- whether every centred coefficient is between - k and k
-  pub within? : ℕ → List ℕ → Bool
+  pub is_within : ℕ → List ℕ → Bool
 
 module _ (S : Setting) where
   abbrev pub Element : List ℕ → Type 0
@@ -35,7 +35,7 @@ module _ (S : Setting) where
 
   -- the sum of the sizes of the centred coefficients
   unfoldable pub weight : List ℕ → ℕ
-  weight a = sumBelow S.n (λ i. nat_abs (S.centred (get_or a i 0)))
+  weight a = sum_below S.n (λ i. nat_abs (S.centred (get_or a i 0)))
 
   abbrev pub sum : (a b : List ℕ) → List ℕ
   sum a b = N.plus S.q S.n a b

@@ -15,10 +15,10 @@ length-words zero low high = refl
 length-words (suc k) low high = omega (arith, length-words k low high)
 
 -- a word behind so many words
-one_more : (k low high : ℕ) (rest : List ℕ) → words_of k low high ++ (low ∷ high ∷ rest) ≡ words_of (suc k) low high ++ rest
+one_more_lem : (k low high : ℕ) (rest : List ℕ) → words_of k low high ++ (low ∷ high ∷ rest) ≡ words_of (suc k) low high ++ rest
 unfolding words_of
-one_more zero low high rest = refl
-one_more (suc k) low high rest = ap (λ (l : List ℕ). low ∷ high ∷ l) (one_more k low high rest)
+one_more_lem zero low high rest = refl
+one_more_lem (suc k) low high rest = ap (λ (l : List ℕ). low ∷ high ∷ l) (one_more_lem k low high rest)
 
 -- two bytes behind a list
 two-set : (p : List ℕ) (a b : ℕ) (rest : List ℕ) (low high n : ℕ) → length p ≡ n
@@ -38,10 +38,10 @@ pub written_none : (words low high : ℕ) → Written words low high (zeros 2688
 unfolding stream words_of
 written_none words low high = record { size = sym (size-zeros 2688); within = omega arith; bytes = refl }
 
-pub written-more : {words low high k : ℕ} {s : List ℕ} → Written words low high s k → k < words → words ≤ 1344
+pub written_more : {words low high k : ℕ} {s : List ℕ} → Written words low high s k → k < words → words ≤ 1344
     → Written words low high (set (set s (2 * k) low) (2 * k + 1) high) (k + 1)
 unfolding stream
-written-more {words} {low} {high} {k} {s} w h most =
+written_more {words} {low} {high} {k} {s} w h most =
     let room : 2688 - 2 * k ≡ suc (suc (2688 - 2 * (k + 1))) = omega arith in
     let next : suc k ≡ k + 1 = omega arith in
     let rest = zeros (2688 - 2 * (k + 1)) in
@@ -51,7 +51,7 @@ written-more {words} {low} {high} {k} {s} w h most =
       bytes =
           ap (λ (l : List ℕ). set (set l (2 * k) low) (2 * k + 1) high) (w.bytes ∙ ap (λ (n : ℕ). words_of k low high ++ zeros n) room)
           ∙ two-set (words_of k low high) 0 0 rest low high (2 * k) (length-words k low high)
-          ∙ one_more k low high rest
+          ∙ one_more_lem k low high rest
           ∙ ap (λ (n : ℕ). words_of n low high ++ rest) next;
     }
 

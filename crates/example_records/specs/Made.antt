@@ -2,9 +2,9 @@
 use Rattle.std.specs.Prelude.{List, [], ◌∷◌, ◌++◌, ℕ, zero, suc, ◌-◌, ◌*◌, set}
 use Rattle.lists.specs.Table.{zeros}
 use Rattle.ring.specs.Ring.{n}
-use Rattle.sampling.specs.Stream.{streamLength}
-use Rattle.records.specs.Layout.{publicKeyMark, secretKeyMark, sealedEntryMark, ternaryLength}
-use Rattle.records.specs.Records.{recordBytes, encapsulationBytes}
+use Rattle.sampling.specs.Stream.{stream_length}
+use Rattle.records.specs.Layout.{public_key_mark, secret_key_mark, sealed_entry_mark, ternary_length}
+use Rattle.records.specs.Records.{record_bytes, encapsulation_bytes}
 
 -- ---- elements and records
 
@@ -16,19 +16,19 @@ abbrev pub constant : (c : ℕ) → List ℕ
 constant c = term c 0
 
 -- "SDK", and s = 0
-unfoldable pub secretKey : (a b : ℕ) → List ℕ
-secretKey a b = recordBytes secretKeyMark 1 (constant a) (constant b) ++ zeros ternaryLength
+unfoldable pub secret_key : (a b : ℕ) → List ℕ
+secret_key a b = record_bytes secret_key_mark 1 (constant a) (constant b) ++ zeros ternary_length
 
 -- "PDK"
-unfoldable pub publicKey : (a b : ℕ) → List ℕ
-publicKey a b = recordBytes publicKeyMark 1 (constant a) (constant b)
+unfoldable pub public_key : (a b : ℕ) → List ℕ
+public_key a b = record_bytes public_key_mark 1 (constant a) (constant b)
 
 unfoldable pub encapsulation : (c1 c2 : ℕ) → List ℕ
-encapsulation c1 c2 = encapsulationBytes (constant c1) (constant c2)
+encapsulation c1 c2 = encapsulation_bytes (constant c1) (constant c2)
 
 -- "PLG", and zeros for body and tag
-unfoldable pub sealedEntry : (c1 c2 : ℕ) → List ℕ
-sealedEntry c1 c2 = recordBytes sealedEntryMark 1 (constant c1) (constant c2) ++ zeros 32
+unfoldable pub sealed_entry : (c1 c2 : ℕ) → List ℕ
+sealed_entry c1 c2 = record_bytes sealed_entry_mark 1 (constant c1) (constant c2) ++ zeros 32
 
 -- ---- streams
 
@@ -39,4 +39,4 @@ words_of (suc k) low high = low ∷ high ∷ words_of k low high
 
 -- and zeros behind them
 unfoldable pub stream : (words low high : ℕ) → List ℕ
-stream words low high = words_of words low high ++ zeros (streamLength - 2 * words)
+stream words low high = words_of words low high ++ zeros (stream_length - 2 * words)

@@ -1,6 +1,6 @@
 // What the worked examples are made of: elements, records and streams.
 ghost use Rattle.std.specs.Prelude.{◌≡◌, ◌≤◌};
-ghost use Rattle.example_records.specs.Made.{term, constant, secretKey, publicKey, encapsulation, sealedEntry, stream};
+ghost use Rattle.example_records.specs.Made.{term, constant, secret_key, public_key, encapsulation, sealed_entry, stream};
 
 use ntt::{DEGREE, Element};
 use records::{
@@ -30,7 +30,7 @@ pub fn constant(c: u16) -> Element
 
 // The secret key of the constants a and b, and s = 0.
 pub fn secret_key(a: u16, b: u16) -> [u8; SECRET_KEY_LENGTH]
-    ensures { result ≡ secretKey a b }
+    ensures { result ≡ secret_key a b }
 {
     let mut key = [0u8; SECRET_KEY_LENGTH];
     records::write_record(SECRET_KEY_MARK, 1, constant(a), constant(b), &mut key);
@@ -38,7 +38,7 @@ pub fn secret_key(a: u16, b: u16) -> [u8; SECRET_KEY_LENGTH]
 }
 
 pub fn public_key(a: u16, b: u16) -> [u8; PUBLIC_KEY_LENGTH]
-    ensures { result ≡ publicKey a b }
+    ensures { result ≡ public_key a b }
 {
     let mut key = [0u8; PUBLIC_KEY_LENGTH];
     records::write_record(PUBLIC_KEY_MARK, 1, constant(a), constant(b), &mut key);
@@ -55,7 +55,7 @@ pub fn encapsulation(c1: u16, c2: u16) -> [u8; ENCAPSULATION_LENGTH]
 
 // A sealed entry whose body and tag are zeros.
 pub fn sealed_entry(c1: u16, c2: u16) -> [u8; SEALED_ENTRY_LENGTH]
-    ensures { result ≡ sealedEntry c1 c2 }
+    ensures { result ≡ sealed_entry c1 c2 }
 {
     let mut sealed = [0u8; SEALED_ENTRY_LENGTH];
     records::write_record(

@@ -1,16 +1,16 @@
 -- Every starred worked example holds, straight from the definitions.
 use mathlib.Core.Path.{refl}
 use native.Mathlib.Omega.{arith}
-use Rattle.ring.specs.Centred.{centred, aroundZero, centredRemainder}
-use Rattle.ring.proofs.Powers.{powers-wrap}
-use Rattle.sampling.specs.Noise.{folded, fourBits}
-use Rattle.gf128.specs.Field.{carrylessProduct, remainder, times}
+use Rattle.ring.specs.Centred.{centred, around_zero, centred_remainder}
+use Rattle.ring.proofs.Powers.{powers_wrap}
+use Rattle.sampling.specs.Noise.{folded, four_bits}
+use Rattle.gf128.specs.Field.{carryless_product, remainder, times}
 use Rattle.gf128.specs.Bytes.{bytes, product}
 use Rattle.examples.specs.Examples.{AllHold, examples}
 
-pub examples-hold : AllHold examples
-unfolding centred aroundZero centredRemainder folded fourBits carrylessProduct remainder times bytes product
-examples-hold =
-    let x1023 = powers-wrap 1023 1 (omega arith) (omega arith) refl in
-    let x512 = powers-wrap 512 512 (omega arith) (omega arith) refl in
+pub examples_hold : AllHold examples
+unfolding centred around_zero centred_remainder folded four_bits carryless_product remainder times bytes product
+examples_hold =
+    let x1023 = powers_wrap 1023 1 (omega arith) (omega arith) refl in
+    let x512 = powers_wrap 512 512 (omega arith) (omega arith) refl in
     (x1023, (x512, (refl, (refl, (refl, (refl, (refl, (refl, (refl, (refl, (refl, (refl, (refl, (refl, (refl, (refl, (refl, (refl, tt))))))))))))))))))

@@ -3,8 +3,8 @@
 use Rattle.std.specs.Prelude.{◌≡◌, List, [], ◌∷◌, ℕ, ◌^◌, ℤ, pos, neg_ℤ}
 use Rattle.lists.specs.Table.{zeros}
 use Rattle.ring.specs.Ring.{constant, power, product}
-use Rattle.ring.specs.Centred.{centred, centredRemainder}
-use Rattle.sampling.specs.Noise.{fourBits}
+use Rattle.ring.specs.Centred.{centred, centred_remainder}
+use Rattle.sampling.specs.Noise.{four_bits}
 use Rattle.gf128.specs.Bytes as Field
 
 -- a kind of example to a constructor
@@ -22,9 +22,9 @@ pub data Example : Type 0 where
 
 abbrev pub Holds : Example → Type 0
 Holds (powers i j c) = product (power i) (power j) ≡ constant c
-Holds (noise t s) = fourBits t ≡ s
-Holds (remainder m r) = centredRemainder m ≡ r
-Holds (coefficient c r) = centredRemainder (centred c) ≡ r
+Holds (noise t s) = four_bits t ≡ s
+Holds (remainder m r) = centred_remainder m ≡ r
+Holds (coefficient c r) = centred_remainder (centred c) ≡ r
 Holds (field i j c) = Field.product (Field.bytes 16 (2 ^ i)) (Field.bytes 16 (2 ^ j)) ≡ c ∷ zeros 15
 
 abbrev pub AllHold : List Example → Type 0

@@ -26,8 +26,8 @@ equal-self [] = refl
 equal-self (x ∷ a) = rw (eq-eqb x x refl) (equal-self a)
 
 -- true exactly for equal strings
-pub equal-iff : (a b : List ℕ) → (equal a b ≡ true → a ≡ b) × (a ≡ b → equal a b ≡ true)
-equal-iff a b = (equal-then-same a b, λ e. rw e (equal-self b))
+pub equal_iff : (a b : List ℕ) → (equal a b ≡ true → a ≡ b) × (a ≡ b → equal a b ≡ true)
+equal_iff a b = (equal-then-same a b, λ e. rw e (equal-self b))
 
 -- ---- the differences of all bytes, joined
 
@@ -42,9 +42,9 @@ or_same d x y e f = rw (e, f) (xor_self y)
 
 -- no difference, exactly where the strings are equal
 pub equal_by : (d : ℕ) (a b : List ℕ) → (d ≡ 0 → a ≡ b) → (a ≡ b → d ≡ 0) → eqb d 0 ≡ equal a b
-equal_by zero a b f g = sym ((equal-iff a b).1 (f refl))
+equal_by zero a b f g = sym ((equal_iff a b).1 (f refl))
 equal_by (suc d) a b f g = ne_eqb (suc d) 0 (λ e. omega arith) ∙ not_equal (equal a b) refl
   where
     not_equal : (t : Bool) → equal a b ≡ t → false ≡ t
-    not_equal true e = let z : suc d ≡ 0 = g ((equal-iff a b).0 e) in absurd (omega arith)
+    not_equal true e = let z : suc d ≡ 0 = g ((equal_iff a b).0 e) in absurd (omega arith)
     not_equal false e = refl

@@ -9,24 +9,24 @@ use lib.Bits.{bit_xor, xor_block}
 use lib.ListN.{length, get_or, take, drop, length-drop, take-append-drop}
 use lib.Pow.{shr-shr}
 use lib.Seq.{take_all, length-take-le}
-use Rattle.lists.specs.Table.{table, tableFrom}
+use Rattle.lists.specs.Table.{table, table_from}
 use Rattle.lists.proofs.Maps.{cons}
 use Rattle.gf128.specs.Bytes.{number, bytes}
-use Rattle.gf128.specs.Words.{eightAt}
-use Rattle.lists.proofs.ByteLists.{Small, part-getD}
+use Rattle.gf128.specs.Words.{eight_at}
+use Rattle.lists.proofs.ByteLists.{Small, part-get_or}
 
-part-eight : (i : ℕ) (a : List ℕ) → i + 8 ≤ length a → take 8 (drop i a) ≡ eightAt a i
-unfolding table tableFrom
-part-eight i a h = part-getD i 8 a h ∙ rw (add-zero i)
+part_eight : (i : ℕ) (a : List ℕ) → i + 8 ≤ length a → take 8 (drop i a) ≡ eight_at a i
+unfolding table table_from
+part_eight i a h = part-get_or i 8 a h ∙ rw (add-zero i)
 
 -- ---- the number of bytes
 
-next-digit : (p x b n : ℕ) → b + 256 * (x * p + n) ≡ x * (p * 256) + (b + 256 * n)
-next-digit p x b n = omega arith
+next_digit : (p x b n : ℕ) → b + 256 * (x * p + n) ≡ x * (p * 256) + (b + 256 * n)
+next_digit p x b n = omega arith
 
 pub number_append : (a b : List ℕ) → number (a ++ b) ≡ number b * 256 ^ length a + number a
 number_append [] b = rw (add-zero (number b * 1), mul-one (number b))
-number_append (x ∷ a) b = rw (number_append a b, pow-suc 256 (length a)) (next-digit (256 ^ length a) (number b) x (number a))
+number_append (x ∷ a) b = rw (number_append a b, pow-suc 256 (length a)) (next_digit (256 ^ length a) (number b) x (number a))
 
 pub number_lt : (a : List ℕ) → Small a → number a < 256 ^ length a
 number_lt [] h = omega arith
@@ -35,10 +35,10 @@ number_lt (x ∷ a) h =
     rw (e, pow-suc 256 (length a)) (digits_lt (number_lt a (λ k. h (suc k))) (h 0))
 
 -- the number of two words of eight bytes
-pub number-halves : (a : List ℕ) → length a ≡ 16 → number (eightAt a 8) * 2 ^ 64 + number (eightAt a 0) ≡ number a
+pub number-halves : (a : List ℕ) → length a ≡ 16 → number (eight_at a 8) * 2 ^ 64 + number (eight_at a 0) ≡ number a
 number-halves a h =
-    let high : eightAt a 8 ≡ drop 8 a = sym (part-eight 8 a (omega arith)) ∙ take_all 8 (drop 8 a) (omega (arith, length-drop 8 a)) in
-    ap₂ (λ (x y : List ℕ). number x * 2 ^ 64 + number y) high (sym (part-eight 0 a (omega arith)))
+    let high : eight_at a 8 ≡ drop 8 a = sym (part_eight 8 a (omega arith)) ∙ take_all 8 (drop 8 a) (omega (arith, length-drop 8 a)) in
+    ap₂ (λ (x y : List ℕ). number x * 2 ^ 64 + number y) high (sym (part_eight 0 a (omega arith)))
     ∙ ap (λ (n : ℕ). number (drop 8 a) * 256 ^ n + number (take 8 a)) (sym (length-take-le 8 a (omega arith)))
     ∙ sym (number_append (take 8 a) (drop 8 a))
     ∙ ap number (take-append-drop 8 a)
@@ -56,19 +56,19 @@ small_bytes zero v k = omega arith
 small_bytes (suc n) v zero = omega arith
 small_bytes (suc n) v (suc k) = small_bytes n (v / 256) k
 
-pub getD-bytes : (n v k : ℕ) → k < n → get_or (bytes n v) k 0 ≡ v / 2 ^ (8 * k) % 256
+pub get_or-bytes : (n v k : ℕ) → k < n → get_or (bytes n v) k 0 ≡ v / 2 ^ (8 * k) % 256
 unfolding bytes
-getD-bytes zero v k h = absurd (omega arith)
-getD-bytes (suc n) v zero h = rw (div-one v)
-getD-bytes (suc n) v (suc k) h =
+get_or-bytes zero v k h = absurd (omega arith)
+get_or-bytes (suc n) v zero h = rw (div-one v)
+get_or-bytes (suc n) v (suc k) h =
     let e : 8 + 8 * k ≡ 8 * suc k = omega arith in
-    getD-bytes n (v / 256) k (omega arith) ∙ ap (λ (x : ℕ). x % 256) (shr-shr v 8 (8 * k) ∙ ap (λ (j : ℕ). v / 2 ^ j) e)
+    get_or-bytes n (v / 256) k (omega arith) ∙ ap (λ (x : ℕ). x % 256) (shr-shr v 8 (8 * k) ∙ ap (λ (j : ℕ). v / 2 ^ j) e)
 
 low_digit : (w p v : ℕ) → (w * (p * 256) + v) % 256 ≡ v % 256
 low_digit w p v = omega arith
 
-other-digits : (w p v : ℕ) → (w * (p * 256) + v) / 256 ≡ w * p + v / 256
-other-digits w p v = omega arith
+other_digits : (w p v : ℕ) → (w * (p * 256) + v) / 256 ≡ w * p + v / 256
+other_digits w p v = omega arith
 
 pub bytes-append : (n m w v : ℕ) → v < 256 ^ n → bytes (n + m) (w * 256 ^ n + v) ≡ bytes n v ++ bytes m w
 unfolding bytes
@@ -77,7 +77,7 @@ bytes-append (suc n) m w v h =
     let e : suc n + m ≡ suc (n + m) = omega arith in
     let k : v < 256 ^ n * 256 = rw (pow-suc 256 n) at h in
     let g : v / 256 < 256 ^ n = omega arith in
-    rw (e, pow-suc 256 n, low_digit w (256 ^ n) v, other-digits w (256 ^ n) v, bytes-append n m w (v / 256) g)
+    rw (e, pow-suc 256 n, low_digit w (256 ^ n) v, other_digits w (256 ^ n) v, bytes-append n m w (v / 256) g)
 
 -- ---- there and back
 
@@ -100,12 +100,12 @@ bytes-number (x ∷ a) h =
 
 -- ---- sums
 
-pub number-xor : (a b : List ℕ) → length a ≡ length b → Small a → Small b → number (zip_with bit_xor a b) ≡ bit_xor (number a) (number b)
+pub number_xor : (a b : List ℕ) → length a ≡ length b → Small a → Small b → number (zip_with bit_xor a b) ≡ bit_xor (number a) (number b)
 unfolding zip_with
-number-xor [] [] e ha hb = refl
-number-xor [] (y ∷ b) e ha hb = absurd (omega arith)
-number-xor (x ∷ a) [] e ha hb = absurd (omega arith)
-number-xor (x ∷ a) (y ∷ b) e ha hb =
+number_xor [] [] e ha hb = refl
+number_xor [] (y ∷ b) e ha hb = absurd (omega arith)
+number_xor (x ∷ a) [] e ha hb = absurd (omega arith)
+number_xor (x ∷ a) (y ∷ b) e ha hb =
     let swap : (u n : ℕ) → u + 256 * n ≡ n * 2 ^ 8 + u = λ u n. omega arith in
-    rw (number-xor a b (suc_inj e) (λ k. ha (suc k)) (λ k. hb (suc k)), swap x (number a), swap y (number b), swap (bit_xor x y) (bit_xor (number a) (number b)))
+    rw (number_xor a b (suc_inj e) (λ k. ha (suc k)) (λ k. hb (suc k)), swap x (number a), swap y (number b), swap (bit_xor x y) (bit_xor (number a) (number b)))
     (sym (xor_block 8 (number a) (number b) x y (ha 0) (hb 0)))

@@ -9,7 +9,7 @@ use lib.ListN.{length, get_or, drop, set}
 use lib.Seq.{get_or-drop, drop-set-lt, drop-drop}
 use Rattle.lists.proofs.Fill.{Filled, filled_none, filled_more, filled-all}
 use Rattle.gf128.specs.Bytes.{sum}
-use Rattle.gf128.proofs.FieldLaws.{length-sum, getD-sum}
+use Rattle.gf128.proofs.FieldLaws.{length-sum, get_or-sum}
 
 -- the first i of n entries are those of the sum, and the others as they were
 pub record Added (n : ℕ) (a before out : List ℕ) (i : ℕ) : Type 0 where
@@ -29,7 +29,7 @@ added_more {n} {a} {before} {out} {i} f h =
     let here : get_or out i 0 ≡ get_or before i 0 =
     simp unary_clauses at (sym (get_or-drop i out 0 0) ∙ ap (λ (l : List ℕ). get_or l 0 0) f.rest ∙ get_or-drop i before 0 0) in
     let is : bit_xor (get_or a i 0) (get_or out i 0) ≡ get_or (sum a before) i 0 =
-    ap (bit_xor (get_or a i 0)) here ∙ sym (getD-sum a before i (omega (arith, f.length-a)) (omega (arith, f.length_before))) in
+    ap (bit_xor (get_or a i 0)) here ∙ sym (get_or-sum a before i (omega (arith, f.length-a)) (omega (arith, f.length_before))) in
     record {
       length-a = f.length-a;
       length_before = f.length_before;
@@ -37,5 +37,5 @@ added_more {n} {a} {before} {out} {i} f h =
       rest = drop-set-lt (i + 1) out i v (omega arith) ∙ sym (drop-drop 1 i out) ∙ ap (drop 1) f.rest ∙ drop-drop 1 i before;
     }
 
-pub added-all : {n : ℕ} {a before out : List ℕ} {i : ℕ} → Added n a before out i → n ≤ i → out ≡ sum a before
-added-all f h = filled-all f.filled h
+pub added_all : {n : ℕ} {a before out : List ℕ} {i : ℕ} → Added n a before out i → n ≤ i → out ≡ sum a before
+added_all f h = filled-all f.filled h

@@ -14,13 +14,13 @@ use Rattle.gf128.specs.Bytes.{Block, number, bytes, sum, product, block, folded,
 use Rattle.gf128.specs.Powers.{power, weighted}
 use Rattle.lists.proofs.ByteLists.{Small, small-drop}
 use Rattle.gf128.proofs.Digits.{number-bytes}
-use Rattle.gf128.proofs.FieldLaws.{bytes-block, part-block, zeros-block, one_block, sum-block, product-block, number-product, number-sum, sum_zeros, sum_comm, sum-assoc, product-comm, product-assoc, product-sum, product-one, product_zeros}
+use Rattle.gf128.proofs.FieldLaws.{bytes-block, part-block, zeros-block, one_block, sum-block, product-block, number-product, number-sum, sum_zeros, sum_comm, sum_assoc, product_comm, product_assoc, product-sum, product-one, product_zeros}
 
 -- ---- the fold
 
-pub folded-none : (k start s : List ℕ) → folded k start 0 s ≡ start
+pub folded_none : (k start s : List ℕ) → folded k start 0 s ≡ start
 unfolding folded
-folded-none k start s = refl
+folded_none k start s = refl
 
 pub folded_more : (k start : List ℕ) (n : ℕ) (s : List ℕ) → folded k start (suc n) s ≡ product k (sum (folded k start n s) (block n s))
 unfolding folded
@@ -53,9 +53,9 @@ folded-front k start (suc n) s rest h =
     rw (b, folded-front k start n s rest (omega arith))
 
 -- the last of n + 1 blocks
-pub folded-last : (k start : List ℕ) (n : ℕ) (s b : List ℕ) → length s ≡ 16 * n → length b ≡ 16
+pub folded_last : (k start : List ℕ) (n : ℕ) (s b : List ℕ) → length s ≡ 16 * n → length b ≡ 16
     → folded k start (suc n) (s ++ b) ≡ product k (sum (folded k start n s) b)
-folded-last k start n s b hs hb =
+folded_last k start n s b hs hb =
     let last : block n (s ++ b) ≡ b = ap (take 16) (drop_at s b (16 * n) hs) ∙ take_all 16 b (omega arith) in
     folded_more k start n (s ++ b)
     ∙ ap₂ (λ (x y : List ℕ). product k (sum x y)) (folded-front k start n s b (omega arith)) last
@@ -72,31 +72,31 @@ folded-first k start (suc n) b s h =
     ap₂ (λ (x y : List ℕ). product k (sum x y)) (folded-first k start n b s h) next
 
 -- of two strings, the first of whole blocks: it goes on from where the first ends
-pub folded-behind : (k start : List ℕ) (n m : ℕ) (s rest : List ℕ) → length s ≡ 16 * n
+pub folded_behind : (k start : List ℕ) (n m : ℕ) (s rest : List ℕ) → length s ≡ 16 * n
     → folded k start (n + m) (s ++ rest) ≡ folded k (folded k start n s) m rest
 unfolding folded
-folded-behind k start n zero s rest h = rw (add-zero n) (folded-front k start n s rest (omega arith))
-folded-behind k start n (suc m) s rest h =
+folded_behind k start n zero s rest h = rw (add-zero n) (folded-front k start n s rest (omega arith))
+folded_behind k start n (suc m) s rest h =
     rw (add-suc n m)
     (let at : 16 * (n + m) ≡ length s + 16 * m = omega arith in
     let next : block (n + m) (s ++ rest) ≡ block m rest =
     ap (λ (i : ℕ). take 16 (drop i (s ++ rest))) at ∙ ap (take 16) (drop-append-add s rest (16 * m)) in
-    ap₂ (λ (x y : List ℕ). product k (sum x y)) (folded-behind k start n m s rest h) next)
+    ap₂ (λ (x y : List ℕ). product k (sum x y)) (folded_behind k start n m s rest h) next)
 
 -- ---- the tag
 
 -- of two strings, the first of whole blocks
-pub tag-behind : (k1 s rest k2 : List ℕ) → length s % 16 ≡ 0
+pub tag_behind : (k1 s rest k2 : List ℕ) → length s % 16 ≡ 0
     → tag k1 (s ++ rest) k2 ≡ sum (folded k1 (folded k1 (zeros 16) (length s / 16) s) (length rest / 16) rest) k2
 unfolding tag
-tag-behind k1 s rest k2 h =
+tag_behind k1 s rest k2 h =
     let n : length (s ++ rest) / 16 ≡ length s / 16 + length rest / 16 = omega (arith, length-append s rest) in
-    rw (n, folded-behind k1 (zeros 16) (length s / 16) (length rest / 16) s rest (omega arith))
+    rw (n, folded_behind k1 (zeros 16) (length s / 16) (length rest / 16) s rest (omega arith))
 
 -- of no block
-pub tag-none : (k1 s k2 : List ℕ) → length s < 16 → length k2 ≡ 16 → tag k1 s k2 ≡ k2
+pub tag_none : (k1 s k2 : List ℕ) → length s < 16 → length k2 ≡ 16 → tag k1 s k2 ≡ k2
 unfolding tag folded
-tag-none k1 s k2 h e =
+tag_none k1 s k2 h e =
     let n : length s / 16 ≡ 0 = omega arith in
     rw n (sum_zeros 16 k2 e)
 
@@ -115,12 +115,12 @@ tag-first k1 b s k2 e =
     rw (n, folded-first k1 (zeros 16) (length s / 16) b s e, sum_zeros 16 b e)
 
 -- of whole blocks and one behind them
-pub tag-last : (k1 s b k2 : List ℕ) → length s % 16 ≡ 0 → length b ≡ 16
+pub tag_last : (k1 s b k2 : List ℕ) → length s % 16 ≡ 0 → length b ≡ 16
     → tag k1 (s ++ b) k2 ≡ sum (product k1 (sum (folded k1 (zeros 16) (length s / 16) s) b)) k2
 unfolding tag
-tag-last k1 s b k2 h e =
+tag_last k1 s b k2 h e =
     let n : length (s ++ b) / 16 ≡ suc (length s / 16) = omega (arith, length-append s b) in
-    rw (n, folded-last k1 (zeros 16) (length s / 16) s b (omega arith) e)
+    rw (n, folded_last k1 (zeros 16) (length s / 16) s b (omega arith) e)
 
 -- ---- the sum of powers
 
@@ -131,13 +131,13 @@ power-block k (suc n) = product-block k (power k n)
 
 no_power : (k : List ℕ) {a : List ℕ} → Block a → product (power k 0) a ≡ a
 unfolding power
-no_power k h = product-comm one_block h ∙ product-one h
+no_power k h = product_comm one_block h ∙ product-one h
 
 -- k^n × (k × a) = k^(n + 1) × a
-power-more : {k : List ℕ} (n : ℕ) (a : List ℕ) → Block k → product (power k n) (product k a) ≡ product (power k (suc n)) a
+power_more : {k : List ℕ} (n : ℕ) (a : List ℕ) → Block k → product (power k n) (product k a) ≡ product (power k (suc n)) a
 unfolding power
-power-more {k} n a hk =
-    product-assoc a (power-block k n) hk ∙ ap (λ (p : List ℕ). product p a) (product-comm (power-block k n) hk)
+power_more {k} n a hk =
+    product_assoc a (power-block k n) hk ∙ ap (λ (p : List ℕ). product p a) (product_comm (power-block k n) hk)
 
 weighted-block : (k : List ℕ) (n : ℕ) (s : List ℕ) → Small s → 16 * n ≤ length s → Block (weighted k n s)
 unfolding weighted
@@ -150,7 +150,7 @@ pub folded-weighted : {k start : List ℕ} (n : ℕ) (s : List ℕ) → Block k 
     → folded k start n s ≡ sum (product (power k n) start) (weighted k n s)
 unfolding weighted
 folded-weighted {k} {start} zero s hk hs small h =
-    folded-none k start s
+    folded_none k start s
     ∙ sym (sum_comm (product-block (power k 0) start) zeros-block ∙ sum_zeros 16 (product (power k 0) start) (product-block (power k 0) start).size ∙ no_power k hs)
 folded-weighted {k} {start} (suc n) s hk hs small h =
     let b = block 0 s in
@@ -163,8 +163,8 @@ folded-weighted {k} {start} (suc n) s hk hs small h =
     ∙ folded-first k start n b rest hb.size
     ∙ folded-weighted n rest hk (product-block k (sum start b)) small-rest left
     ∙ ap (λ (x : List ℕ). sum x (weighted k n rest))
-    (power-more n (sum start b) hk ∙ product-sum (power-block k (suc n)) hs hb)
-    ∙ sum-assoc (product-block p start) (product-block p b) (weighted-block k n rest small-rest left)
+    (power_more n (sum start b) hk ∙ product-sum (power-block k (suc n)) hs hb)
+    ∙ sum_assoc (product-block p start) (product-block p b) (weighted-block k n rest small-rest left)
 
 -- k1^m × B1 + .. + k1 × Bm + k2
 pub tag-weighted : {k1 : List ℕ} (s k2 : List ℕ) → Block k1 → Small s → tag k1 s k2 ≡ sum (weighted k1 (length s / 16) s) k2
@@ -185,4 +185,4 @@ tag-first-weighted {k1} {b} s k2 hk hb small =
     tag-first k1 b s k2 hb.size
     ∙ ap (λ (x : List ℕ). sum x k2)
     (folded-weighted m s hk (product-block k1 b) small (omega arith)
-    ∙ ap (λ (x : List ℕ). sum x (weighted k1 m s)) (power-more m b hk))
+    ∙ ap (λ (x : List ℕ). sum x (weighted k1 m s)) (power_more m b hk))

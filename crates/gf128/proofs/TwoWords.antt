@@ -9,7 +9,7 @@ use lib.Pow.{pow_pos, split}
 use Rattle.lists.specs.Bits.{bit}
 use Rattle.lists.proofs.Bits.{bit-above}
 use Rattle.gf128.specs.Field.{modulus}
-use Rattle.gf128.specs.Words.{timesX}
+use Rattle.gf128.specs.Words.{times_x}
 
 pub two-words-lt : (hi lo : ℕ) → hi < 2 ^ 64 → lo < 2 ^ 64 → hi * 2 ^ 64 + lo < 2 ^ 128
 two-words-lt hi lo hh hl = digits_lt hh hl
@@ -33,24 +33,24 @@ double-halves H q r = omega arith
 double-word : (v : ℕ) → v * 2 ≡ v / 2 ^ 63 * 2 ^ 64 + v % 2 ^ 63 * 2
 double-word v = ap (λ (n : ℕ). n * 2) (sym (split v 63)) ∙ double-halves (2 ^ 63) (v / 2 ^ 63) (v % 2 ^ 63)
 
-double-low : (v : ℕ) → v * 2 % 2 ^ 64 ≡ v % 2 ^ 63 * 2
-double-low v = omega arith
+double_low : (v : ℕ) → v * 2 % 2 ^ 64 ≡ v % 2 ^ 63 * 2
+double_low v = omega arith
 
 top_lt : (v : ℕ) → v < 2 ^ 64 → v / 2 ^ 63 < 2
 top_lt v h = omega arith
 
-low-terms-lt : (t : ℕ) → t < 2 → t * 135 < 2 ^ 64
-low-terms-lt t h = omega arith
+low_terms-lt : (t : ℕ) → t < 2 → t * 135 < 2 ^ 64
+low_terms-lt t h = omega arith
 
 pub low-word-lt : (hi lo : ℕ) → hi < 2 ^ 64 → bit_xor (lo * 2 % 2 ^ 64) (hi / 2 ^ 63 * 135) < 2 ^ 64
-low-word-lt hi lo h = xor_lt 64 _ _ (mod-lt (lo * 2) (pow_pos 64)) (low-terms-lt (hi / 2 ^ 63) (top_lt hi h))
+low-word-lt hi lo h = xor_lt 64 _ _ (mod-lt (lo * 2) (pow_pos 64)) (low_terms-lt (hi / 2 ^ 63) (top_lt hi h))
 
 shifted-lt : (r t : ℕ) → r < 2 ^ 63 → t < 2 → r * 2 + t < 2 ^ 64
 shifted-lt r t hr ht = omega arith
 
 -- the bit that goes over fits beside the shifted word
 pub carry-fits : (hi lo : ℕ) → lo < 2 ^ 64 → hi * 2 % 2 ^ 64 + lo / 2 ^ 63 < 2 ^ 64
-carry-fits hi lo hl = rw (double-low hi) (shifted-lt (hi % 2 ^ 63) (lo / 2 ^ 63) (mod-lt hi (pow_pos 63)) (top_lt lo hl))
+carry-fits hi lo hl = rw (double_low hi) (shifted-lt (hi % 2 ^ 63) (lo / 2 ^ 63) (mod-lt hi (pow_pos 63)) (top_lt lo hl))
 
 top_bit : (hi lo : ℕ) → hi < 2 ^ 64 → lo < 2 ^ 64 → bit 127 (hi * 2 ^ 64 + lo) ≡ hi / 2 ^ 63
 top_bit hi lo hh hl =
@@ -58,17 +58,17 @@ top_bit hi lo hh hl =
     bit-above 64 63 hi lo hl ∙ e
 
 -- x × v on two words
-pub timesX-words : (hi lo : ℕ) → hi < 2 ^ 64 → lo < 2 ^ 64
-    → (hi * 2 % 2 ^ 64 + lo / 2 ^ 63) * 2 ^ 64 + bit_xor (lo * 2 % 2 ^ 64) (hi / 2 ^ 63 * 135) ≡ timesX (hi * 2 ^ 64 + lo)
-unfolding timesX
-timesX-words hi lo hh hl =
+pub times_x-words : (hi lo : ℕ) → hi < 2 ^ 64 → lo < 2 ^ 64
+    → (hi * 2 % 2 ^ 64 + lo / 2 ^ 63) * 2 ^ 64 + bit_xor (lo * 2 % 2 ^ 64) (hi / 2 ^ 63 * 135) ≡ times_x (hi * 2 ^ 64 + lo)
+unfolding times_x
+times_x-words hi lo hh hl =
     let t = hi / 2 ^ 63 in
     let up = hi * 2 % 2 ^ 64 + lo / 2 ^ 63 in
     let l = lo * 2 % 2 ^ 64 in
-    let eh : hi * 2 ≡ hi / 2 ^ 63 * 2 ^ 64 + hi * 2 % 2 ^ 64 = rw (double-low hi) (double-word hi) in
-    let el : lo * 2 ≡ lo / 2 ^ 63 * 2 ^ 64 + lo * 2 % 2 ^ 64 = rw (double-low lo) (double-word lo) in
+    let eh : hi * 2 ≡ hi / 2 ^ 63 * 2 ^ 64 + hi * 2 % 2 ^ 64 = rw (double_low hi) (double-word hi) in
+    let el : lo * 2 ≡ lo / 2 ^ 63 * 2 ^ 64 + lo * 2 % 2 ^ 64 = rw (double_low lo) (double-word lo) in
     let low-lt : lo * 2 % 2 ^ 64 < 2 ^ 64 = mod-lt (lo * 2) (pow_pos 64) in
-    let terms-lt : hi / 2 ^ 63 * 135 < 2 ^ 64 = low-terms-lt _ (top_lt hi hh) in
+    let terms-lt : hi / 2 ^ 63 * 135 < 2 ^ 64 = low_terms-lt _ (top_lt hi hh) in
     sym
     (ap₂ bit_xor
     (double (2 ^ 64) hi lo ∙ ap₂ (λ (x y : ℕ). x * 2 ^ 64 + y) eh el ∙ regroup (2 ^ 64) t (hi * 2 % 2 ^ 64) (lo / 2 ^ 63) l)

@@ -9,9 +9,9 @@ abbrev pub modulus : ℕ
 modulus = 2 ^ 128 + 2 ^ 7 + 2 ^ 2 + 2 + 1
 
 -- the product of polynomials, the second of degree below n: a × (b0 + x × b') = x × (a × b') + b0 × a
-unfoldable pub carrylessProduct : ℕ → ℕ → ℕ → ℕ
-carrylessProduct zero a b = 0
-carrylessProduct (suc n) a b = bit_xor (2 * carrylessProduct n a (b / 2)) (b % 2 * a)
+unfoldable pub carryless_product : ℕ → ℕ → ℕ → ℕ
+carryless_product zero a b = 0
+carryless_product (suc n) a b = bit_xor (2 * carryless_product n a (b / 2)) (b % 2 * a)
 
 -- long division by the modulus, the highest term first: what is left of a polynomial of degree below 128 + n
 unfoldable pub remainder : ℕ → ℕ → ℕ
@@ -20,4 +20,4 @@ remainder (suc n) p = remainder n (bit_xor p (bit (128 + n) p * (modulus * 2 ^ n
 
 -- the product in the field, of two polynomials of degree below 128
 unfoldable pub times : ℕ → ℕ → ℕ
-times a b = remainder 128 (carrylessProduct 128 a b)
+times a b = remainder 128 (carryless_product 128 a b)

@@ -10,12 +10,12 @@ abbrev pub value : Element → ℕ
 value e = e.hi * 2 ^ 64 + e.lo
 
 -- x × v in the field
-unfoldable pub timesX : ℕ → ℕ
-timesX v = bit_xor (2 * v) (bit 127 v * modulus)
+unfoldable pub times_x : ℕ → ℕ
+times_x v = bit_xor (2 * v) (bit 127 v * modulus)
 
 -- the eight bytes from a place on
-abbrev pub eightAt : List ℕ → ℕ → List ℕ
-eightAt b at =
+abbrev pub eight_at : List ℕ → ℕ → List ℕ
+eight_at b at =
     get_or b at 0
     ∷ get_or b (at + 1) 0
     ∷ get_or b (at + 2) 0

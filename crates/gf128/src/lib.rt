@@ -5,7 +5,7 @@ ghost use Rattle.std.specs.Int.Bits.{bit_xor};
 ghost use Rattle.lists.specs.Bits.{bit};
 ghost use Rattle.gf128.specs.Field.{times};
 ghost use Rattle.gf128.specs.Bytes.{number, bytes, sum, product, equal, folded, tag};
-ghost use Rattle.gf128.specs.Words.{value, timesX, eightAt};
+ghost use Rattle.gf128.specs.Words.{value, times_x, eight_at};
 
 // A polynomial of degree below 128: the coefficients of x^0 to x^63 are the bits of lo, the others those of hi.
 #[derive(Drop)]
@@ -19,7 +19,7 @@ struct Element {
 // The word of eight bytes from a place on.
 fn word(b: &[u8], at: usize) -> u64
     requires { at + 8 ≤ length b.now }
-    ensures { result ≡ number (eightAt b.now at) }
+    ensures { result ≡ number (eight_at b.now at) }
 {
     octets::word64_at(b, at)
 }
@@ -60,7 +60,7 @@ fn add(a: Element, b: Element) -> Element
 
 // x × e: the term x^128, if any, is x^7 + x^2 + x + 1.
 fn times_x(e: Element) -> Element
-    ensures { value result ≡ timesX (value e) }
+    ensures { value result ≡ times_x (value e) }
 {
     let top = e.hi >> 63;
     Element {

@@ -2,16 +2,16 @@
 use Rattle.std.specs.Prelude.{Bool, ◌&&◌, List, [], ◌∷◌, ℕ, eqb}
 use Rattle.gf128.specs.Bytes.{product}
 use Rattle.vectors.specs.declared.Verdict.{Verdict}
-use Rattle.vectors.specs.Fields.{word32, field, sized?}
-use Rattle.vectors.specs.Answers.{same?, verdictOf}
+use Rattle.vectors.specs.Fields.{word32, field, is_sized}
+use Rattle.vectors.specs.Answers.{is_same, verdict_of}
 
-abbrev pub case? : List ℕ → Bool
-case? text = sized? (16 ∷ 16 ∷ 4 ∷ 0 ∷ 16 ∷ []) text
+abbrev pub is_case : List ℕ → Bool
+is_case text = is_sized (16 ∷ 16 ∷ 4 ∷ 0 ∷ 16 ∷ []) text
 
 -- the number is 0, and the product is that of the factors
-abbrev pub agrees? : List ℕ → Bool
-agrees? text = eqb (word32 (field 2 text)) 0 && same? (product (field 0 text) (field 1 text)) (field 4 text)
+abbrev pub agrees : List ℕ → Bool
+agrees text = eqb (word32 (field 2 text)) 0 && is_same (product (field 0 text) (field 1 text)) (field 4 text)
 
 -- the verdict on the case that a text starts with
 abbrev pub verdict : List ℕ → Verdict
-verdict text = verdictOf (case? text) (agrees? text)
+verdict text = verdict_of (is_case text) (agrees text)

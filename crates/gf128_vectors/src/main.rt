@@ -2,13 +2,13 @@
 // wrong with the file.
 ghost use Rattle.std.specs.Prelude.{◌≡◌, true};
 ghost use Rattle.vectors.specs.Answers.{report};
-ghost use Rattle.gf128_vectors.specs.Cases.{case?, agrees?, verdict};
+ghost use Rattle.gf128_vectors.specs.Cases.{is_case, agrees, verdict};
 
 use vectors::{Report, Verdict};
 
 fn agrees(text: &[u8]) -> bool
-    requires { case? text.now ≡ true }
-    ensures { result ≡ agrees? text.now }
+    requires { is_case text.now ≡ true }
+    ensures { result ≡ agrees text.now }
 {
     let x = octets::read_block(vectors::field(text, 0));
     let y = octets::read_block(vectors::field(text, 1));

@@ -8,14 +8,14 @@ use lib.Bits.{bit_xor}
 use Rattle.lists.proofs.Xor.{xor-swap}
 use Rattle.keccak_steps.specs.Constants.{offset}
 use Rattle.keccak_steps.specs.Steps.{State, lane, state, rotate, parity, effect, theta, rho, pi, chi, iota}
-use Rattle.keccak_chi.specs.Complementing.{complementIf, complementedBy, marks, marksBeforeChi, complementedChi}
+use Rattle.keccak_chi.specs.Complementing.{complement_if, complemented_by, marks, marks_before_chi, complemented_chi}
 use Rattle.keccak_steps.proofs.States.{Wide, lane-state, state-same}
-use Rattle.keccak_steps.proofs.Words.{rotate-xor}
+use Rattle.keccak_steps.proofs.Words.{rotate_xor}
 use Rattle.keccak_chi.proofs.Complements.{not-not}
-use Rattle.keccak_chi.proofs.Masks.{sum, mask, masks, masks-wide, complemented-sum}
-use Rattle.keccak.specs.Keccak.{round, rounds, keccakF}
-use Rattle.keccak.specs.Complementing.{complemented, complementedRound}
-use Rattle.keccak.proofs.Wide.{parity-lt, theta-wide, rho-wide, pi-wide, rounds-wide}
+use Rattle.keccak_chi.proofs.Masks.{sum, mask, masks, masks_wide, complemented-sum}
+use Rattle.keccak.specs.Keccak.{round, rounds, keccak_f}
+use Rattle.keccak.specs.Complementing.{complemented, complemented_round}
+use Rattle.keccak.proofs.Wide.{parity-lt, theta_wide, rho_wide, pi_wide, rounds_wide}
 
 -- ---- theta, rho and pi are linear
 
@@ -49,7 +49,7 @@ module _ (a b : State) (wa : Wide a) (wb : Wide b) where
       let hb : before < 5 = omega arith in
       let ha : after < 5 = omega arith in
       ap₂ (λ (p q : ℕ). bit_xor p (rotate 1 q)) (parity-sum before hb) (parity-sum after ha)
-      ∙ ap (bit_xor (bit_xor (parity a before) (parity b before))) (rotate-xor 1 (parity a after) (parity b after) (parity-lt a wa after ha) (parity-lt b wb after ha) (omega arith))
+      ∙ ap (bit_xor (bit_xor (parity a before) (parity b before))) (rotate_xor 1 (parity a after) (parity b after) (parity-lt a wa after ha) (parity-lt b wb after ha) (omega arith))
       ∙ xor-swap (parity a before) (parity b before) (rotate 1 (parity a after)) (rotate 1 (parity b after))
 
   theta-sum : theta (sum a b) ≡ sum (theta a) (theta b)
@@ -65,70 +65,70 @@ module _ (a b : State) (wa : Wide a) (wb : Wide b) where
       state-same _ _
       (λ x y hx hy.
       ap (rotate (offset x y % 64)) (sum-lane x y hx hy)
-      ∙ rotate-xor (offset x y % 64) (lane a x y) (lane b x y) (wa x y hx hy) (wb x y hx hy) (mod-lt (offset x y) (omega arith))
+      ∙ rotate_xor (offset x y % 64) (lane a x y) (lane b x y) (wa x y hx hy) (wb x y hx hy) (mod-lt (offset x y) (omega arith))
       ∙ sym (ap₂ bit_xor (lane-state (λ x y. rotate (offset x y % 64) (lane a x y)) x y hx hy) (lane-state (λ x y. rotate (offset x y % 64) (lane b x y)) x y hx hy)))
 
 linear-sum : (a b : State) → Wide a → Wide b → linear (sum a b) ≡ sum (linear a) (linear b)
 linear-sum a b wa wb =
     ap (λ (s : State). pi (rho s)) (theta-sum a b wa wb)
-    ∙ ap pi (rho-sum (theta a) (theta b) (theta-wide a wa) (theta-wide b wb))
+    ∙ ap pi (rho-sum (theta a) (theta b) (theta_wide a wa) (theta_wide b wb))
 
 -- antt computes where theta, rho and pi bring the ones
-linear-masks : linear (masks marks) ≡ masks marksBeforeChi
+linear-masks : linear (masks marks) ≡ masks marks_before_chi
 unfolding masks mask
 linear-masks = refl
 
-linear-wide : (a : State) → Wide a → Wide (linear a)
-linear-wide a w = pi-wide (rho (theta a)) (rho-wide (theta a) (theta-wide a w))
+linear_wide : (a : State) → Wide a → Wide (linear a)
+linear_wide a w = pi_wide (rho (theta a)) (rho_wide (theta a) (theta_wide a w))
 
-linear-complemented : (a : State) → Wide a → linear (complemented a) ≡ complementedBy marksBeforeChi (linear a)
+linear-complemented : (a : State) → Wide a → linear (complemented a) ≡ complemented_by marks_before_chi (linear a)
 unfolding complemented
 linear-complemented a w =
-    ap linear (complemented-sum marks a w) ∙ linear-sum a (masks marks) w (masks-wide marks)
+    ap linear (complemented-sum marks a w) ∙ linear-sum a (masks marks) w (masks_wide marks)
     ∙ ap (sum (linear a)) linear-masks
-    ∙ sym (complemented-sum marksBeforeChi (linear a) (linear-wide a w))
+    ∙ sym (complemented-sum marks_before_chi (linear a) (linear_wide a w))
 
 -- ---- a round, and the rounds
 
-pub round-steps : (ir : ℕ) (a : State) → Wide a → iota ir (complementedChi (pi (rho (theta a)))) ≡ complementedRound ir a
-unfolding complementedRound complemented round
-round-steps ir a w = ap (λ (s : State). complementedBy marks (iota ir (chi s))) (sym (linear-complemented a w))
+pub round_steps : (ir : ℕ) (a : State) → Wide a → iota ir (complemented_chi (pi (rho (theta a)))) ≡ complemented_round ir a
+unfolding complemented_round complemented round
+round_steps ir a w = ap (λ (s : State). complemented_by marks (iota ir (chi s))) (sym (linear-complemented a w))
 
 -- complementing undoes itself, on the lanes
-complemented-twice : (a : State) → Wide a → complemented (complemented a) ≡ state (lane a)
+complemented_twice : (a : State) → Wide a → complemented (complemented a) ≡ state (lane a)
 unfolding complemented
-complemented-twice a w =
+complemented_twice a w =
     state-same _ _
     (λ x y hx hy.
-    ap (complementIf (lane marks x y)) (lane-state (λ x y. complementIf (lane marks x y) (lane a x y)) x y hx hy)
-    ∙ if-twice (lane marks x y) (lane a x y) (w x y hx hy))
+    ap (complement_if (lane marks x y)) (lane-state (λ x y. complement_if (lane marks x y) (lane a x y)) x y hx hy)
+    ∙ if_twice (lane marks x y) (lane a x y) (w x y hx hy))
   where
-    if-twice : (k v : ℕ) → v < 2 ^ 64 → complementIf k (complementIf k v) ≡ v
-    if-twice zero v h = refl
-    if-twice (suc k) v h = not-not v h
+    if_twice : (k v : ℕ) → v < 2 ^ 64 → complement_if k (complement_if k v) ≡ v
+    if_twice zero v h = refl
+    if_twice (suc k) v h = not-not v h
 
 -- n rounds on complemented lanes, from round k on
-abbrev pub roundsFrom : ℕ → ℕ → State → State
-roundsFrom k zero a = a
-roundsFrom k (suc n) a = complementedRound (k + n) (roundsFrom k n a)
+abbrev pub rounds_from : ℕ → ℕ → State → State
+rounds_from k zero a = a
+rounds_from k (suc n) a = complemented_round (k + n) (rounds_from k n a)
 
-rounds-complemented : (n : ℕ) → n ≤ 24 → (a : State) → Wide a → roundsFrom 0 n (complemented a) ≡ complemented (rounds n a)
-unfolding complementedRound rounds round
+rounds-complemented : (n : ℕ) → n ≤ 24 → (a : State) → Wide a → rounds_from 0 n (complemented a) ≡ complemented (rounds n a)
+unfolding complemented_round rounds round
 rounds-complemented zero h a w = refl
 rounds-complemented (suc n) h a w =
-    ap₂ complementedRound (zero-add n) (rounds-complemented n (omega arith) a w)
-    ∙ ap (λ (s : State). complemented (round n s)) (complemented-twice (rounds n a) (rounds-wide n (omega arith) a w))
+    ap₂ complemented_round (zero-add n) (rounds-complemented n (omega arith) a w)
+    ∙ ap (λ (s : State). complemented (round n s)) (complemented_twice (rounds n a) (rounds_wide n (omega arith) a w))
 
-pub all-rounds : (a : State) → Wide a → complemented (roundsFrom 0 24 (complemented a)) ≡ keccakF a
-unfolding keccakF rounds round
+pub all-rounds : (a : State) → Wide a → complemented (rounds_from 0 24 (complemented a)) ≡ keccak_f a
+unfolding keccak_f rounds round
 all-rounds a w =
-    ap complemented (rounds-complemented 24 (omega arith) a w) ∙ complemented-twice (rounds 24 a) (rounds-wide 24 (omega arith) a w)
+    ap complemented (rounds-complemented 24 (omega arith) a w) ∙ complemented_twice (rounds 24 a) (rounds_wide 24 (omega arith) a w)
 
 -- a turn of the loop
-pub two-more : (i : ℕ) (a : State) {s t : State} → s ≡ roundsFrom 0 (2 * i) a → t ≡ complementedRound (2 * i + 1) (complementedRound (2 * i) s)
-    → t ≡ roundsFrom 0 (2 * (i + 1)) a
-two-more i a before step =
+pub two_more : (i : ℕ) (a : State) {s t : State} → s ≡ rounds_from 0 (2 * i) a → t ≡ complemented_round (2 * i + 1) (complemented_round (2 * i) s)
+    → t ≡ rounds_from 0 (2 * (i + 1)) a
+two_more i a before step =
     let n : 2 * (i + 1) ≡ suc (suc (2 * i)) = omega arith in
     step
-    ∙ ap (λ (s : State). complementedRound (2 * i + 1) (complementedRound (2 * i) s)) before
+    ∙ ap (λ (s : State). complemented_round (2 * i + 1) (complemented_round (2 * i) s)) before
     ∙ rw (n, zero-add (2 * i), zero-add (suc (2 * i)), add-one (2 * i))

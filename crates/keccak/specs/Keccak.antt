@@ -12,5 +12,5 @@ rounds zero a = a
 rounds (suc n) a = round n (rounds n a)
 
 -- Algorithm 7: Keccak-p[1600, 24], which is Keccak-f[1600]
-unfoldable pub keccakF : State → State
-keccakF a = rounds 24 a
+unfoldable pub keccak_f : State → State
+keccak_f a = rounds 24 a

@@ -3,9 +3,9 @@
 // Six lanes of the state are held complemented between the rounds, as chi takes them.
 ghost use Rattle.std.specs.Prelude.{◌≡◌, ◌+◌, ◌*◌, ◌<◌};
 ghost use Rattle.lists.specs.Table.{table};
-ghost use Rattle.keccak_steps.specs.Constants.{roundConstant};
-ghost use Rattle.keccak.specs.Keccak.{keccakF};
-ghost use Rattle.keccak.specs.Complementing.{complementedRound};
+ghost use Rattle.keccak_steps.specs.Constants.{round_constant};
+ghost use Rattle.keccak.specs.Keccak.{keccak_f};
+ghost use Rattle.keccak.specs.Complementing.{complemented_round};
 
 // RC of each round, from algorithm 6.
 const ROUND_CONSTANTS: [u64; 24] = [
@@ -37,15 +37,15 @@ const ROUND_CONSTANTS: [u64; 24] = [
 
 // The table, once a permutation: indexing the constant itself would copy it in each round.
 fn round_constants() -> [u64; 24]
-    ensures { result ≡ table 24 roundConstant }
+    ensures { result ≡ table 24 round_constant }
 {
     ROUND_CONSTANTS
 }
 
 // Section 3.3: Rnd on complemented lanes.
 fn round(a: [[u64; 5]; 5], ir: usize, constants: &[u64; 24]) -> [[u64; 5]; 5]
-    requires { (ir < 24) × (constants.now ≡ table 24 roundConstant) }
-    ensures { result ≡ complementedRound ir a }
+    requires { (ir < 24) × (constants.now ≡ table 24 round_constant) }
+    ensures { result ≡ complemented_round ir a }
 {
     let linear = keccak_steps::pi(keccak_steps::rho(keccak_steps::theta(a)));
     keccak_steps::iota(keccak_chi::chi(linear), ir, constants)
@@ -53,8 +53,8 @@ fn round(a: [[u64; 5]; 5], ir: usize, constants: &[u64; 24]) -> [[u64; 5]; 5]
 
 // Two rounds, which the compiler writes out one after the other: so no lane is moved back to its place between them.
 fn two_rounds(a: [[u64; 5]; 5], i: usize, constants: &[u64; 24]) -> [[u64; 5]; 5]
-    requires { (i < 12) × (constants.now ≡ table 24 roundConstant) }
-    ensures { result ≡ complementedRound (2 * i + 1) (complementedRound (2 * i) a) }
+    requires { (i < 12) × (constants.now ≡ table 24 round_constant) }
+    ensures { result ≡ complemented_round (2 * i + 1) (complemented_round (2 * i) a) }
 {
     let mut s = a;
     for j in 0..2 {
@@ -66,7 +66,7 @@ fn two_rounds(a: [[u64; 5]; 5], i: usize, constants: &[u64; 24]) -> [[u64; 5]; 5
 
 // Algorithm 7, with 24 rounds.
 pub fn keccak_f(a: [[u64; 5]; 5]) -> [[u64; 5]; 5]
-    ensures { result ≡ keccakF a }
+    ensures { result ≡ keccak_f a }
 {
     let constants = round_constants();
     let mut s = keccak_chi::complemented(a);

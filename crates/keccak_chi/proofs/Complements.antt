@@ -24,13 +24,13 @@ pub xor-not : (u v : ℕ) → u < 2 ^ 64 → v < 2 ^ 64 → bit_xor u (complemen
 xor-not u v hu hv =
     ap (bit_xor u) (sym (xor_ones v hv)) ∙ sym (xor_assoc u v (2 ^ 64 - 1)) ∙ xor_ones (bit_xor u v) (xor_lt 64 u v hu hv)
 
-pub not-xor : (u v : ℕ) → u < 2 ^ 64 → v < 2 ^ 64 → bit_xor (complement u) v ≡ complement (bit_xor u v)
-not-xor u v hu hv = xor_comm (complement u) v ∙ xor-not v u hv hu ∙ ap complement (xor_comm v u)
+pub not_xor : (u v : ℕ) → u < 2 ^ 64 → v < 2 ^ 64 → bit_xor (complement u) v ≡ complement (bit_xor u v)
+not_xor u v hu hv = xor_comm (complement u) v ∙ xor-not v u hv hu ∙ ap complement (xor_comm v u)
 
-pub not-xor-not : (u v : ℕ) → u < 2 ^ 64 → v < 2 ^ 64 → bit_xor (complement u) (complement v) ≡ bit_xor u v
-not-xor-not u v hu hv = xor-not (complement u) v (not-lt u) hv ∙ ap complement (not-xor u v hu hv) ∙ not-not (bit_xor u v) (xor_lt 64 u v hu hv)
+pub not_xor-not : (u v : ℕ) → u < 2 ^ 64 → v < 2 ^ 64 → bit_xor (complement u) (complement v) ≡ bit_xor u v
+not_xor-not u v hu hv = xor-not (complement u) v (not-lt u) hv ∙ ap complement (not_xor u v hu hv) ∙ not-not (bit_xor u v) (xor_lt 64 u v hu hv)
 
 -- De Morgan, by the sums that and, or and exclusive or make up
 pub not-or : (u v : ℕ) → u < 2 ^ 64 → v < 2 ^ 64 → bit_and (complement u) (complement v) ≡ complement (bit_or u v)
 not-or u v hu hv =
-    omega (arith, xor_add_and (complement u) (complement v), not-xor-not u v hu hv, xor_add_and u v, or_add_and u v, hu, hv)
+    omega (arith, xor_add_and (complement u) (complement v), not_xor-not u v hu hv, xor_add_and u v, or_add_and u v, hu, hv)

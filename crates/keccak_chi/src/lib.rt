@@ -3,13 +3,13 @@
 // Six lanes are held complemented between the rounds: with them chi takes five complements in place of 25 ("lane complementing" of the Keccak
 // implementation overview). Theta, rho and pi only add lanes and turn them, so they carry complements along.
 ghost use Rattle.std.specs.Prelude.{◌≡◌};
-ghost use Rattle.keccak_chi.specs.Complementing.{marks, complementedBy, complementedChiPlane, complementedChi};
+ghost use Rattle.keccak_chi.specs.Complementing.{marks, complemented_by, complemented_chi_plane, complemented_chi};
 
 const ONES: u64 = 0xFFFFFFFFFFFFFFFF;
 
 // The six lanes complemented.
 pub fn complemented(a: [[u64; 5]; 5]) -> [[u64; 5]; 5]
-    ensures { result ≡ complementedBy marks a }
+    ensures { result ≡ complemented_by marks a }
 {
     [
         keccak_steps::xor_planes(a[0], [0, ONES, ONES, 0, 0]),
@@ -22,7 +22,7 @@ pub fn complemented(a: [[u64; 5]; 5]) -> [[u64; 5]; 5]
 
 // Algorithm 4 on plane 0, complemented in part before and after.
 fn chi_0(p: [u64; 5]) -> [u64; 5]
-    ensures { result ≡ complementedChiPlane 0 p }
+    ensures { result ≡ complemented_chi_plane 0 p }
 {
     let b0 = p[0];
     let b1 = p[1];
@@ -40,7 +40,7 @@ fn chi_0(p: [u64; 5]) -> [u64; 5]
 
 // Algorithm 4 on plane 1.
 fn chi_1(p: [u64; 5]) -> [u64; 5]
-    ensures { result ≡ complementedChiPlane 1 p }
+    ensures { result ≡ complemented_chi_plane 1 p }
 {
     let b0 = p[0];
     let b1 = p[1];
@@ -58,7 +58,7 @@ fn chi_1(p: [u64; 5]) -> [u64; 5]
 
 // Algorithm 4 on plane 2.
 fn chi_2(p: [u64; 5]) -> [u64; 5]
-    ensures { result ≡ complementedChiPlane 2 p }
+    ensures { result ≡ complemented_chi_plane 2 p }
 {
     let b0 = p[0];
     let b1 = p[1];
@@ -76,7 +76,7 @@ fn chi_2(p: [u64; 5]) -> [u64; 5]
 
 // Algorithm 4 on plane 3.
 fn chi_3(p: [u64; 5]) -> [u64; 5]
-    ensures { result ≡ complementedChiPlane 3 p }
+    ensures { result ≡ complemented_chi_plane 3 p }
 {
     let b0 = p[0];
     let b1 = p[1];
@@ -94,7 +94,7 @@ fn chi_3(p: [u64; 5]) -> [u64; 5]
 
 // Algorithm 4 on plane 4.
 fn chi_4(p: [u64; 5]) -> [u64; 5]
-    ensures { result ≡ complementedChiPlane 4 p }
+    ensures { result ≡ complemented_chi_plane 4 p }
 {
     let b0 = p[0];
     let b1 = p[1];
@@ -112,7 +112,7 @@ fn chi_4(p: [u64; 5]) -> [u64; 5]
 
 // Algorithm 4, which works on each plane by itself. The order of the planes is the one that compiles to the fewest instructions.
 pub fn chi(a: [[u64; 5]; 5]) -> [[u64; 5]; 5]
-    ensures { result ≡ complementedChi a }
+    ensures { result ≡ complemented_chi a }
 {
     let p3 = chi_3(a[3]);
     let p1 = chi_1(a[1]);

@@ -7,7 +7,7 @@ use native.Mathlib.Omega.{arith}
 use lib.Bits.{bit_xor, bit_or, xor_lt, or_lt, or_self}
 use lib.Pow.{pow_pos, shr_lt, shr_le}
 use Rattle.lists.specs.Bits.{bit}
-use Rattle.lists.proofs.Bits.{bit-xor, bit-shr, bit-rotate}
+use Rattle.lists.proofs.Bits.{bit-xor, bit_shr, bit-rotate}
 use Rattle.lists.proofs.Xor.{same-halves}
 use Rattle.keccak_steps.specs.Steps.{rotate}
 
@@ -17,7 +17,7 @@ words_same zero a b ha hb same = omega arith
 words_same (suc k) a b ha hb same =
     let half : (v : ℕ) → v < 2 ^ suc k → v / 2 < 2 ^ k = λ v h. shr_lt k 1 (rw (add-one k) h) in
     let above : (z : ℕ) → z < k → bit z (a / 2) ≡ bit z (b / 2) =
-    λ z h. bit-shr 1 z a ∙ same (1 + z) (omega arith) ∙ sym (bit-shr 1 z b) in
+    λ z h. bit_shr 1 z a ∙ same (1 + z) (omega arith) ∙ sym (bit_shr 1 z b) in
     same-halves a b (words_same k (a / 2) (b / 2) (half a ha) (half b hb) above) (rw (div-one a, div-one b) at (same 0 (omega arith)))
 
 -- ---- rotation
@@ -42,8 +42,8 @@ rotate-code (suc n) v h l =
     ap (λ (k : ℕ). bit_or ((v * 2 ^ suc n) % 2 ^ 64) (v / 2 ^ k)) e
 
 -- a rotation of a sum
-pub rotate-xor : (n u v : ℕ) → u < 2 ^ 64 → v < 2 ^ 64 → n < 64 → rotate n (bit_xor u v) ≡ bit_xor (rotate n u) (rotate n v)
-rotate-xor n u v hu hv l =
+pub rotate_xor : (n u v : ℕ) → u < 2 ^ 64 → v < 2 ^ 64 → n < 64 → rotate n (bit_xor u v) ≡ bit_xor (rotate n u) (rotate n v)
+rotate_xor n u v hu hv l =
     let hs = xor_lt 64 u v hu hv in
     let ru = rotate-lt n u hu l in
     let rv = rotate-lt n v hv l in

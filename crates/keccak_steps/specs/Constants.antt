@@ -4,14 +4,14 @@ use Rattle.std.specs.Prelude.{Bool, ◌&&◌, cond, List, [], ◌∷◌, ℕ, ze
 use Rattle.std.specs.Int.Bits.{bit_xor}
 
 -- Algorithm 2, step 3, for the n turns from t on, with the walk now at lane (u, v): the offset (t + 1)(t + 2) / 2 of lane (x, y)
-abbrev pub offsetFrom : ℕ → ℕ → ℕ → ℕ → ℕ → ℕ → ℕ
-offsetFrom zero t u v x y = 0
-offsetFrom (suc n) t u v x y =
-    cond (eqb u x && eqb v y) ((t + 1) * (t + 2) / 2) (offsetFrom n (t + 1) v ((2 * u + 3 * v) % 5) x y)
+abbrev pub offset_from : ℕ → ℕ → ℕ → ℕ → ℕ → ℕ → ℕ
+offset_from zero t u v x y = 0
+offset_from (suc n) t u v x y =
+    cond (eqb u x && eqb v y) ((t + 1) * (t + 2) / 2) (offset_from n (t + 1) v ((2 * u + 3 * v) % 5) x y)
 
 -- Algorithm 2: the walk of 24 turns starts at lane (1, 0); lane (0, 0) is not on it and stays as it is
 abbrev pub offset : ℕ → ℕ → ℕ
-offset x y = offsetFrom 24 0 1 0 x y
+offset x y = offset_from 24 0 1 0 x y
 
 -- Algorithm 5, step 3: one turn of the register R of eight bits, R[0] first
 abbrev pub turn : List ℕ → List ℕ
@@ -35,10 +35,10 @@ abbrev pub rc : ℕ → ℕ
 rc t = get_or (turns (t % 255) (1 ∷ 0 ∷ 0 ∷ 0 ∷ 0 ∷ 0 ∷ 0 ∷ 0 ∷ [])) 0 0
 
 -- Algorithm 6, steps 2 and 3: RC has the bit rc(j + 7 ir) at 2^j - 1, here for j below n, and no other bit
-abbrev pub roundConstantTo : ℕ → ℕ → ℕ
-roundConstantTo ir zero = 0
-roundConstantTo ir (suc j) = roundConstantTo ir j + rc (j + 7 * ir) * 2 ^ (2 ^ j - 1)
+abbrev pub round_constant_to : ℕ → ℕ → ℕ
+round_constant_to ir zero = 0
+round_constant_to ir (suc j) = round_constant_to ir j + rc (j + 7 * ir) * 2 ^ (2 ^ j - 1)
 
 -- RC of round ir, for j from 0 to 6
-unfoldable pub roundConstant : ℕ → ℕ
-roundConstant ir = roundConstantTo ir 7
+unfoldable pub round_constant : ℕ → ℕ
+round_constant ir = round_constant_to ir 7

@@ -1,7 +1,7 @@
 -- The state of Keccak-p[1600, 24] and its step mappings, FIPS 202, sections 3.1 and 3.2, on lanes of 64 bits.
 use Rattle.std.specs.Prelude.{List, [], ◌∷◌, ℕ, zero, suc, ◌+◌, ◌*◌, ◌/◌, ◌%◌, ◌-◌, ◌^◌, get_or, set}
 use Rattle.std.specs.Int.Bits.{bit_xor, bit_and, bit_or}
-use Rattle.keccak_steps.specs.Constants.{offset, roundConstant}
+use Rattle.keccak_steps.specs.Constants.{offset, round_constant}
 
 -- Section 3.1: a state is five planes, y = 0 first, of five lanes, x = 0 first; lane (x, y) is the number whose bit z is A[x, y, z]
 abbrev pub State : Type 0
@@ -46,13 +46,13 @@ abbrev pub pi : State → State
 pi a = state (λ x y. lane a ((x + 3 * y) % 5) x)
 
 -- Algorithm 4 on one plane
-abbrev pub chiPlane : List ℕ → List ℕ
-chiPlane p = plane (λ x. bit_xor (get_or p x 0) (bit_and (complement (get_or p ((x + 1) % 5) 0)) (get_or p ((x + 2) % 5) 0)))
+abbrev pub chi_plane : List ℕ → List ℕ
+chi_plane p = plane (λ x. bit_xor (get_or p x 0) (bit_and (complement (get_or p ((x + 1) % 5) 0)) (get_or p ((x + 2) % 5) 0)))
 
 -- Algorithm 4
 abbrev pub chi : State → State
-chi a = chiPlane (get_or a 0 []) ∷ chiPlane (get_or a 1 []) ∷ chiPlane (get_or a 2 []) ∷ chiPlane (get_or a 3 []) ∷ chiPlane (get_or a 4 []) ∷ []
+chi a = chi_plane (get_or a 0 []) ∷ chi_plane (get_or a 1 []) ∷ chi_plane (get_or a 2 []) ∷ chi_plane (get_or a 3 []) ∷ chi_plane (get_or a 4 []) ∷ []
 
 -- Algorithm 6
 abbrev pub iota : ℕ → State → State
-iota ir a = set a 0 (set (get_or a 0 []) 0 (bit_xor (lane a 0 0) (roundConstant ir)))
+iota ir a = set a 0 (set (get_or a 0 []) 0 (bit_xor (lane a 0 0) (round_constant ir)))

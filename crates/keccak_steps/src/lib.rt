@@ -3,7 +3,7 @@
 ghost use Rattle.std.specs.Prelude.{◌≡◌, [], ◌∷◌, ◌+◌, ◌*◌, ◌%◌, ◌<◌, get_or};
 ghost use Rattle.std.specs.Int.Bits.{bit_xor};
 ghost use Rattle.lists.specs.Table.{table};
-ghost use Rattle.keccak_steps.specs.Constants.{roundConstant};
+ghost use Rattle.keccak_steps.specs.Constants.{round_constant};
 ghost use Rattle.keccak_steps.specs.Steps.{lane, plane, rotate, parity, theta, rho, pi, iota};
 
 // The lanes of two planes added.
@@ -118,7 +118,7 @@ pub fn pi(a: [[u64; 5]; 5]) -> [[u64; 5]; 5]
 
 // Algorithm 6.
 pub fn iota(a: [[u64; 5]; 5], ir: usize, constants: &[u64; 24]) -> [[u64; 5]; 5]
-    requires { (ir < 24) × (constants.now ≡ table 24 roundConstant) }
+    requires { (ir < 24) × (constants.now ≡ table 24 round_constant) }
     ensures { result ≡ iota ir a }
 {
     let mut b = a;

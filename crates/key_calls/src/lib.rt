@@ -1,10 +1,10 @@
 // The calls that check a secret key and that make keys from a stream. Buffers may have any length; under any answer but Done every
 // output is as it came.
 ghost use Rattle.std.specs.Prelude.{◌≡◌, length};
-ghost use Rattle.answers.specs.Answers.{number, onDone};
-ghost use Rattle.records.specs.Layout.{publicKeyLength, secretKeyLength};
-ghost use Rattle.records.specs.Records.{publicKeyBytes, secretKeyBytes};
-ghost use Rattle.calls.specs.Calls.{checkAnswer, keygenAnswer, keygenPublic, keygenSecret};
+ghost use Rattle.answers.specs.Answers.{number, on_done};
+ghost use Rattle.records.specs.Layout.{public_key_length, secret_key_length};
+ghost use Rattle.records.specs.Records.{public_key_bytes, secret_key_bytes};
+ghost use Rattle.calls.specs.Calls.{check_answer, keygen_answer, keygen_public, keygen_secret};
 ghost use Rattle.calls.specs.Promises.{CheckExact};
 
 use answers::{Answer, Refusal};
@@ -17,7 +17,7 @@ use sampling::{NOISE_LENGTH, STREAM_LENGTH};
 
 // The key check, of a secret key of either version.
 pub fn check_secret_key(key: &[u8]) -> Answer
-    ensures value { result ≡ checkAnswer key.now }
+    ensures value { result ≡ check_answer key.now }
     ensures check_exact { CheckExact key.now (number result) }
 {
     if key.len() < HEADER_LENGTH {
@@ -33,8 +33,8 @@ pub fn check_secret_key(key: &[u8]) -> Answer
 // ---- keygen
 
 fn write_public_key(answer: Answer, a: Element, b: Element, out: &mut [u8])
-    requires { length out.old ≡ publicKeyLength }
-    ensures { out.new ≡ onDone answer (publicKeyBytes a b) out.old }
+    requires { length out.old ≡ public_key_length }
+    ensures { out.new ≡ on_done answer (public_key_bytes a b) out.old }
 {
     if let Answer::Done = answer {
         records::write_public_key(a, b, out);
@@ -42,8 +42,8 @@ fn write_public_key(answer: Answer, a: Element, b: Element, out: &mut [u8])
 }
 
 pub fn write_secret_key(answer: Answer, a: Element, b: Element, s: Element, out: &mut [u8])
-    requires { length out.old ≡ secretKeyLength }
-    ensures { out.new ≡ onDone answer (secretKeyBytes a b s) out.old }
+    requires { length out.old ≡ secret_key_length }
+    ensures { out.new ≡ on_done answer (secret_key_bytes a b s) out.old }
 {
     if let Answer::Done = answer {
         records::write_secret_key(a, b, s, out);
@@ -52,9 +52,9 @@ pub fn write_secret_key(answer: Answer, a: Element, b: Element, s: Element, out:
 
 // Key generation, which tries once, from a stream and the noise of s and of e.
 pub fn keygen(stream: &[u8], s: &[u8], e: &[u8], public: &mut [u8], secret: &mut [u8]) -> Answer
-    ensures value { result ≡ keygenAnswer stream.now s.now e.now (length public.old) (length secret.old) }
-    ensures public_after { public.new ≡ keygenPublic stream.now s.now e.now public.old secret.old }
-    ensures secret_after { secret.new ≡ keygenSecret stream.now s.now e.now public.old secret.old }
+    ensures value { result ≡ keygen_answer stream.now s.now e.now (length public.old) (length secret.old) }
+    ensures public_after { public.new ≡ keygen_public stream.now s.now e.now public.old secret.old }
+    ensures secret_after { secret.new ≡ keygen_secret stream.now s.now e.now public.old secret.old }
 {
     let fits = (stream.len() == STREAM_LENGTH)
         & (s.len() == NOISE_LENGTH)

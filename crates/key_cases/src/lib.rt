@@ -1,7 +1,7 @@
 // When a case of key making, or of a key's check, agrees.
 ghost use Rattle.std.specs.Prelude.{◌≡◌, length};
 ghost use Rattle.case_outputs.specs.Outputs.{filled, output};
-ghost use Rattle.key_cases.specs.KeyCases.{generationAnswer, generationPublic, generationSecret, checkAgrees?, keysAgree?, publicAfter, secretAfter, keygenAgrees?};
+ghost use Rattle.key_cases.specs.KeyCases.{generation_answer, generation_public, generation_secret, check_agrees, keys_agree, public_after, secret_after, keygen_agrees};
 
 use answers::Answer;
 use case_outputs::FILLER;
@@ -9,7 +9,7 @@ use case_outputs::FILLER;
 // ---- check_secret_key
 
 pub fn check_agrees(text: &[u8]) -> bool
-    ensures { result ≡ checkAgrees? text.now }
+    ensures { result ≡ check_agrees text.now }
 {
     let answer = key_calls::check_secret_key(vectors::field(text, 0));
     case_outputs::is_told(answer, vectors::number(text, 1), vectors::field(text, 2))
@@ -32,9 +32,9 @@ fn generate(
     public: &mut [u8],
     secret: &mut [u8],
 ) -> Answer
-    ensures value { result ≡ generationAnswer source first.now s.now e.now (length public.old) (length secret.old) }
-    ensures public_after { public.new ≡ generationPublic source first.now s.now e.now public.old secret.old }
-    ensures secret_after { secret.new ≡ generationSecret source first.now s.now e.now public.old secret.old }
+    ensures value { result ≡ generation_answer source first.now s.now e.now (length public.old) (length secret.old) }
+    ensures public_after { public.new ≡ generation_public source first.now s.now e.now public.old secret.old }
+    ensures secret_after { secret.new ≡ generation_secret source first.now s.now e.now public.old secret.old }
 {
     match source {
         Source::Stream => key_calls::keygen(first, s, e, public, secret),
@@ -44,7 +44,7 @@ fn generate(
 
 // Whether both keys are what a case tells.
 fn keys_agree(text: &[u8], answer: Answer, public: &[u8], secret: &[u8]) -> bool
-    ensures { result ≡ keysAgree? text.now answer public.now secret.now }
+    ensures { result ≡ keys_agree text.now answer public.now secret.now }
 {
     let told = vectors::number(text, 5);
     let words = vectors::field(text, 6);
@@ -53,9 +53,9 @@ fn keys_agree(text: &[u8], answer: Answer, public: &[u8], secret: &[u8]) -> bool
 }
 
 fn keygen_agrees(source: Source, text: &[u8], public: &mut [u8], secret: &mut [u8]) -> bool
-    ensures value { result ≡ keygenAgrees? source text.now (filled public.old) (filled secret.old) }
-    ensures public_after { public.new ≡ publicAfter source text.now (filled public.old) (filled secret.old) }
-    ensures secret_after { secret.new ≡ secretAfter source text.now (filled public.old) (filled secret.old) }
+    ensures value { result ≡ keygen_agrees source text.now (filled public.old) (filled secret.old) }
+    ensures public_after { public.new ≡ public_after source text.now (filled public.old) (filled secret.old) }
+    ensures secret_after { secret.new ≡ secret_after source text.now (filled public.old) (filled secret.old) }
 {
     vectors::fill(public, FILLER);
     vectors::fill(secret, FILLER);
@@ -71,7 +71,7 @@ fn keygen_agrees(source: Source, text: &[u8], public: &mut [u8], secret: &mut [u
 }
 
 pub fn keygen_case_agrees(source: Source, text: &[u8]) -> bool
-    ensures { result ≡ keygenAgrees? source text.now (output 3 text.now) (output 4 text.now) }
+    ensures { result ≡ keygen_agrees source text.now (output 3 text.now) (output 4 text.now) }
 {
     let mut public = case_outputs::output_buffer();
     let mut secret = case_outputs::output_buffer();

@@ -1,13 +1,13 @@
 // The calls that convert a secret key from one version to the other (document 02, No. 5). Buffers may have any length; under any answer but
 // Done the output is as it came.
 ghost use Rattle.std.specs.Prelude.{◌≡◌, ◌≤◌, length};
-ghost use Rattle.ntt.specs.Spectrum.{spectrumOf};
-ghost use Rattle.ntt.specs.Factors.{forwardFactors, backwardFactors};
+ghost use Rattle.ntt.specs.Spectrum.{spectrum_of};
+ghost use Rattle.ntt.specs.Factors.{forward_factors, backward_factors};
 ghost use Rattle.answers.specs.Answers.{number};
-ghost use Rattle.records.specs.Layout.{secretKeyLength, expandedKeyLength};
-ghost use Rattle.records.specs.Records.{compactBytes, expandedBytes};
-ghost use Rattle.secret_keys.specs.SecretKeys.{elementsOf, versionAnswer};
-ghost use Rattle.conversion_calls.specs.Calls.{expandAnswer, expandOut, compactAnswer, compactOut};
+ghost use Rattle.records.specs.Layout.{secret_key_length, expanded_key_length};
+ghost use Rattle.records.specs.Records.{compact_bytes, expanded_bytes};
+ghost use Rattle.secret_keys.specs.SecretKeys.{elements_of, version_answer};
+ghost use Rattle.conversion_calls.specs.Calls.{expand_answer, expand_out, compact_answer, compact_out};
 ghost use Rattle.conversion_calls.specs.Promises.{ExpandExact, CompactExact};
 
 use answers::{Answer, Refusal};
@@ -28,9 +28,9 @@ struct Checked {
 }
 
 fn check_version(key: &[u8], version: u16, forward: &[u16], backward: &[u16]) -> Checked
-    requires { (forward.now ≡ forwardFactors) × (backward.now ≡ backwardFactors) }
-    ensures answer_value { result.answer ≡ versionAnswer version key.now }
-    ensures inverse_value { result.inverse ≡ spectrumOf (elementsOf key.now).inverse }
+    requires { (forward.now ≡ forward_factors) × (backward.now ≡ backward_factors) }
+    ensures answer_value { result.answer ≡ version_answer version key.now }
+    ensures inverse_value { result.inverse ≡ spectrum_of (elements_of key.now).inverse }
 {
     let header = records::check_header(key, SECRET_KEY_MARK, version);
     let read = secret_keys::read_secret_key(key, forward, backward);
@@ -46,8 +46,8 @@ fn check_version(key: &[u8], version: u16, forward: &[u16], backward: &[u16]) ->
 
 // The a, b and s of a key stay as they stand.
 fn write_expanded(key: &[u8], inverse: Element, out: &mut [u8])
-    requires { (secretKeyLength ≤ length key.now) × (length out.old ≡ expandedKeyLength) }
-    ensures { out.new ≡ expandedBytes key.now inverse }
+    requires { (secret_key_length ≤ length key.now) × (length out.old ≡ expanded_key_length) }
+    ensures { out.new ≡ expanded_bytes key.now inverse }
 {
     encoding::encode_header(SECRET_KEY_MARK, EXPANDED_KEY_VERSION, &mut out[0..FIRST]);
     octets::copy(&key[FIRST..INVERSE], &mut out[FIRST..INVERSE]);
@@ -56,8 +56,8 @@ fn write_expanded(key: &[u8], inverse: Element, out: &mut [u8])
 
 // Version 1 to version 2. SECRET_KEY_LENGTH bytes give EXPANDED_KEY_LENGTH.
 pub fn expand_secret_key(key: &[u8], out: &mut [u8]) -> Answer
-    ensures value { result ≡ expandAnswer key.now (length out.old) }
-    ensures out_after { out.new ≡ expandOut key.now out.old }
+    ensures value { result ≡ expand_answer key.now (length out.old) }
+    ensures out_after { out.new ≡ expand_out key.now out.old }
     ensures expand_exact { ExpandExact key.now out.old (number result) out.new }
 {
     let fits = (HEADER_LENGTH <= key.len()) & (out.len() == EXPANDED_KEY_LENGTH);
@@ -80,8 +80,8 @@ pub fn expand_secret_key(key: &[u8], out: &mut [u8]) -> Answer
 // ---- compact_secret_key
 
 fn write_compact(key: &[u8], out: &mut [u8])
-    requires { (secretKeyLength ≤ length key.now) × (length out.old ≡ secretKeyLength) }
-    ensures { out.new ≡ compactBytes key.now }
+    requires { (secret_key_length ≤ length key.now) × (length out.old ≡ secret_key_length) }
+    ensures { out.new ≡ compact_bytes key.now }
 {
     encoding::encode_header(SECRET_KEY_MARK, SECRET_KEY_VERSION, &mut out[0..FIRST]);
     octets::copy(
@@ -92,8 +92,8 @@ fn write_compact(key: &[u8], out: &mut [u8])
 
 // Version 2 to version 1. EXPANDED_KEY_LENGTH bytes give SECRET_KEY_LENGTH.
 pub fn compact_secret_key(key: &[u8], out: &mut [u8]) -> Answer
-    ensures value { result ≡ compactAnswer key.now (length out.old) }
-    ensures out_after { out.new ≡ compactOut key.now out.old }
+    ensures value { result ≡ compact_answer key.now (length out.old) }
+    ensures out_after { out.new ≡ compact_out key.now out.old }
     ensures compact_exact { CompactExact key.now out.old (number result) out.new }
 {
     let fits = (HEADER_LENGTH <= key.len()) & (out.len() == SECRET_KEY_LENGTH);

@@ -1,32 +1,32 @@
 -- What key generation makes, and triples from noise.
 use Rattle.std.specs.Prelude.{List, ℕ}
-use Rattle.scheme.specs.Scheme.{Triple, keyElement}
-use Rattle.sampling.specs.Noise.{noiseLength, ternaryNoise}
-use Rattle.sampling.specs.Stream.{uniformElement}
+use Rattle.scheme.specs.Scheme.{Triple, key_element}
+use Rattle.sampling.specs.Noise.{noise_length, ternary_noise}
+use Rattle.sampling.specs.Stream.{uniform_element}
 use Rattle.answers.specs.declared.Answer.{Answer}
-use Rattle.answers.specs.Answers.{andThen}
+use Rattle.answers.specs.Answers.{and_then}
 use Rattle.records.specs.Records.{part}
-use Rattle.public_keys.specs.PublicKeys.{streamAnswer, inverseAnswer}
+use Rattle.public_keys.specs.PublicKeys.{stream_answer, inverse_answer}
 
 -- ---- key generation, from a stream and the noise of s and of e
 
 -- b, for the a of the stream
-unfoldable pub keygenB : (stream s e : List ℕ) → List ℕ
-keygenB stream s e = keyElement (uniformElement stream) (ternaryNoise s) (ternaryNoise e)
+unfoldable pub keygen_b : (stream s e : List ℕ) → List ℕ
+keygen_b stream s e = key_element (uniform_element stream) (ternary_noise s) (ternary_noise e)
 
 -- 8, 6
-unfoldable pub generatedAnswer : (stream s e : List ℕ) → Answer
-generatedAnswer stream s e = andThen (streamAnswer stream) (inverseAnswer (keygenB stream s e))
+unfoldable pub generated_answer : (stream s e : List ℕ) → Answer
+generated_answer stream s e = and_then (stream_answer stream) (inverse_answer (keygen_b stream s e))
 
 -- ---- triples
 
 -- how many bytes a triple is read from: r, then e1, then e2
-abbrev pub tripleNoiseLength : ℕ
-tripleNoiseLength = 1536
+abbrev pub triple_noise_length : ℕ
+triple_noise_length = 1536
 
-abbrev pub noiseTriple : List ℕ → Triple
-noiseTriple noise = record {
-  r = ternaryNoise (part 0 noiseLength noise);
-  e1 = ternaryNoise (part 512 noiseLength noise);
-  e2 = ternaryNoise (part 1024 noiseLength noise);
+abbrev pub noise_triple : List ℕ → Triple
+noise_triple noise = record {
+  r = ternary_noise (part 0 noise_length noise);
+  e1 = ternary_noise (part 512 noise_length noise);
+  e2 = ternary_noise (part 1024 noise_length noise);
 }

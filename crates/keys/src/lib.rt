@@ -1,9 +1,9 @@
 // New keys, from a stream, and triples, from noise.
 ghost use Rattle.std.specs.Prelude.{◌≡◌, length};
-ghost use Rattle.sampling.specs.Noise.{ternaryNoise};
-ghost use Rattle.sampling.specs.Stream.{uniformElement};
+ghost use Rattle.sampling.specs.Noise.{ternary_noise};
+ghost use Rattle.sampling.specs.Stream.{uniform_element};
 ghost use Rattle.scheme.specs.Answers as Struct;
-ghost use Rattle.keys.specs.Keys.{generatedAnswer, keygenB, tripleNoiseLength, noiseTriple};
+ghost use Rattle.keys.specs.Keys.{generated_answer, keygen_b, triple_noise_length, noise_triple};
 
 use answers::{Answer, Refusal};
 use ntt::{DEGREE, Element, FACTORS};
@@ -22,9 +22,9 @@ pub struct NewKey {
 }
 
 pub fn generate(stream: &[u8], s: &[u8], e: &[u8]) -> NewKey
-    ensures answer_value { result.answer ≡ generatedAnswer stream.now s.now e.now }
-    ensures a_value { (result.a ≡ uniformElement stream.now) × (result.b ≡ keygenB stream.now s.now e.now) }
-    ensures s_value { result.s ≡ ternaryNoise s.now }
+    ensures answer_value { result.answer ≡ generated_answer stream.now s.now e.now }
+    ensures a_value { (result.a ≡ uniform_element stream.now) × (result.b ≡ keygen_b stream.now s.now e.now) }
+    ensures s_value { result.s ≡ ternary_noise s.now }
 {
     let mut forward = [0u16; FACTORS];
     let mut backward = [0u16; FACTORS];
@@ -57,8 +57,8 @@ pub const TRIPLE_NOISE_LENGTH: usize = 3 * NOISE_LENGTH;
 
 // Of noise.
 pub fn noise_triple(noise: &[u8]) -> Triple
-    requires { length noise.now ≡ tripleNoiseLength }
-    ensures { Struct.triple_of result ≡ noiseTriple noise.now }
+    requires { length noise.now ≡ triple_noise_length }
+    ensures { Struct.triple_of result ≡ noise_triple noise.now }
 {
     let r = sampling::ternary(&noise[0..E1]);
     let e1 = sampling::ternary(&noise[E1..E2]);

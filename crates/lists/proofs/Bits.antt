@@ -66,8 +66,8 @@ bit_below n z a b h =
 pub bit-mod : (n z v : ℕ) → z < n → bit z (v % 2 ^ n) ≡ bit z v
 bit-mod n z v h = sym (bit_below n z (v / 2 ^ n) (v % 2 ^ n) h) ∙ ap (bit z) (split v n)
 
-pub bit-shr : (n z v : ℕ) → bit z (v / 2 ^ n) ≡ bit (n + z) v
-bit-shr n z v = ap (λ (x : ℕ). x % 2) (shr-shr v n z)
+pub bit_shr : (n z v : ℕ) → bit z (v / 2 ^ n) ≡ bit (n + z) v
+bit_shr n z v = ap (λ (x : ℕ). x % 2) (shr-shr v n z)
 
 -- ---- complement and rotation of words of w bits
 
@@ -114,4 +114,4 @@ bit-rotate w n z v h l g = place (w - n) (omega arith) (dec_lt z (w - n))
     place m e (no b) =
         let at : (z + n) % w ≡ z - m = mod-eq-sub-mod (omega arith) ∙ mod-eq_of_lt (omega arith) ∙ omega arith in
         let back : m + (z - m) ≡ z = omega arith in
-        rw (at, sum m e) (bit_below n (z - m) (v % 2 ^ m) (v / 2 ^ m) (omega arith) ∙ bit-shr m (z - m) v ∙ ap (λ (k : ℕ). bit k v) back)
+        rw (at, sum m e) (bit_below n (z - m) (v % 2 ^ m) (v / 2 ^ m) (omega arith) ∙ bit_shr m (z - m) v ∙ ap (λ (k : ℕ). bit k v) back)

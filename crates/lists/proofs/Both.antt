@@ -8,6 +8,6 @@ both true b e = (refl, e)
 both false b e = absurd (false≢true e)
 
 -- the same of tests that are computed
-pub both-computed : (a b : Bool) → T (a && b) → T a × T b
-both-computed true b t = (tt, t)
-both-computed false b t = absurd t
+pub both_computed : (a b : Bool) → T (a && b) → T a × T b
+both_computed true b t = (tt, t)
+both_computed false b t = absurd t

@@ -6,7 +6,7 @@ use native.Mathlib.Omega.{arith}
 use lib.Bits.{bit_xor, xor_lt}
 use lib.ListN.{length, get_or, take, drop}
 use Rattle.lists.specs.Table.{table, zeros}
-use Rattle.lists.proofs.Tables.{table-getD, part-table}
+use Rattle.lists.proofs.Tables.{table-get_or, part-table}
 
 -- every entry is a byte
 abbrev pub Small : List ℕ → Type 0
@@ -28,15 +28,15 @@ small-zeros zero k = omega arith
 small-zeros (suc n) zero = omega arith
 small-zeros (suc n) (suc k) = small-zeros n k
 
-pub small-xor : (a b : List ℕ) → Small a → Small b → Small (zip_with bit_xor a b)
+pub small_xor : (a b : List ℕ) → Small a → Small b → Small (zip_with bit_xor a b)
 unfolding zip_with
-small-xor [] b ha hb k = omega arith
-small-xor (x ∷ a) [] ha hb k = omega arith
-small-xor (x ∷ a) (y ∷ b) ha hb zero = xor_lt 8 x y (ha 0) (hb 0)
-small-xor (x ∷ a) (y ∷ b) ha hb (suc k) = small-xor a b (λ j. ha (suc j)) (λ j. hb (suc j)) k
+small_xor [] b ha hb k = omega arith
+small_xor (x ∷ a) [] ha hb k = omega arith
+small_xor (x ∷ a) (y ∷ b) ha hb zero = xor_lt 8 x y (ha 0) (hb 0)
+small_xor (x ∷ a) (y ∷ b) ha hb (suc k) = small_xor a b (λ j. ha (suc j)) (λ j. hb (suc j)) k
 
 -- ---- a part
 
-pub part-getD : (i k : ℕ) (a : List ℕ) → i + k ≤ length a → take k (drop i a) ≡ table k (λ j. get_or a (i + j) 0)
-part-getD i k a h =
-    ap (λ (l : List ℕ). take k (drop i l)) (sym (table-getD (length a) a 0 refl)) ∙ part-table i k (length a) (λ j. get_or a j 0) h
+pub part-get_or : (i k : ℕ) (a : List ℕ) → i + k ≤ length a → take k (drop i a) ≡ table k (λ j. get_or a (i + j) 0)
+part-get_or i k a h =
+    ap (λ (l : List ℕ). take k (drop i l)) (sym (table-get_or (length a) a 0 refl)) ∙ part-table i k (length a) (λ j. get_or a j 0) h

@@ -7,7 +7,7 @@ use native.Mathlib.Omega.{arith}
 use lib.ListN.{length, get_or, take, drop, set, take-append-drop, length-append, length-take, length-drop, length-set}
 use lib.Seq.{get_or-take, take-set-le, take-set-lt, drop-set-add, drop-set-lt, take-suc, take-suc-set, take_all, take-add, take_at, drop-drop, length-take-le, take-length, set_at, append_snoc}
 use Rattle.lists.specs.Table.{table, zeros}
-use Rattle.lists.proofs.Tables.{length-table, getD-table}
+use Rattle.lists.proofs.Tables.{length-table, get_or-table}
 
 -- The first i of the n entries of s stand at the front of the buffer `out`. What stands behind them is open, so the
 -- invariant never names what the buffer held at the start.
@@ -57,7 +57,7 @@ module _ {A : Type 0} where
   -- one entry more of a list that is given by a rule
   pub filled-more-by : {n : ℕ} (g : ℕ → A) {out : List A} {i : ℕ} {v : A} (d : A) → Filled n (table n g) out i → i < n → v ≡ g i
       → Filled n (table n g) (set out i v) (i + 1)
-  filled-more-by {n} g {out} {i} {v} d f h e = filled_more d f h (e ∙ sym (getD-table n g i d h))
+  filled-more-by {n} g {out} {i} {v} d f h e = filled_more d f h (e ∙ sym (get_or-table n g i d h))
 
 -- an entry that is filled already
 pub filled_at : {A : Type 0} {n : ℕ} {s out : List A} {i : ℕ} (d : A) (k : ℕ) → Filled n s out i → k < i → get_or out k d ≡ get_or s k d
@@ -70,22 +70,22 @@ pub record FilledHalves {A : Type 0} (h : ℕ) (low high out : List A) (i : ℕ)
   pub second : Filled h high (drop h out) i
 
 module _ {A : Type 0} where
-  pub filled-halves-none : (h : ℕ) (low high out : List A) → length low ≡ h → length high ≡ h → length out ≡ h + h → FilledHalves h low high out 0
-  filled-halves-none h low high out l g e = record {
+  pub filled-halves_none : (h : ℕ) (low high out : List A) → length low ≡ h → length high ≡ h → length out ≡ h + h → FilledHalves h low high out 0
+  filled-halves_none h low high out l g e = record {
     first = filled_none low (take h out) l (length-take-le h out (omega arith));
     second = filled_none high (drop h out) g (length-drop h out ∙ omega arith);
   }
 
   -- one entry more in each half
-  pub filled-halves-more : {h : ℕ} {low high out : List A} {i : ℕ} {x y : A} (d : A) → FilledHalves h low high out i → i < h
+  pub filled-halves_more : {h : ℕ} {low high out : List A} {i : ℕ} {x y : A} (d : A) → FilledHalves h low high out i → i < h
       → x ≡ get_or low i d → y ≡ get_or high i d → FilledHalves h low high (set (set out i x) (h + i) y) (i + 1)
-  filled-halves-more {h} {low} {high} {out} {i} {x} {y} d f l e g = record {
+  filled-halves_more {h} {low} {high} {out} {i} {x} {y} d f l e g = record {
     first = rw (take-set-le h (set out i x) (h + i) y (omega arith), take-set-lt h out i x l) (filled_more d f.first l e);
     second = rw (drop-set-add h (set out i x) i y, drop-set-lt h out i x l) (filled_more d f.second l g);
   }
 
-  pub filled-halves-all : {h : ℕ} {low high out : List A} {i : ℕ} → FilledHalves h low high out i → h ≤ i → out ≡ low ++ high
-  filled-halves-all {h} {out = out} f l =
+  pub filled-halves_all : {h : ℕ} {low high out : List A} {i : ℕ} → FilledHalves h low high out i → h ≤ i → out ≡ low ++ high
+  filled-halves_all {h} {out = out} f l =
       sym (take-append-drop h out) ∙ ap₂ (λ (a b : List A). a ++ b) (filled-all f.first l) (filled-all f.second l)
 
 -- The first i entries of s, then zeros, n entries in all: the invariant of a loop that writes s into an array of zeros that may be longer.
@@ -94,13 +94,13 @@ pub record ZeroFilled (n : ℕ) (s out : List ℕ) (i : ℕ) : Type 0 where
   pub fits : length s ≤ n
   pub same : out ≡ take i s ++ zeros (n - i)
 
-pub zero-filled-none : (n : ℕ) (s out : List ℕ) → length s ≤ n → out ≡ zeros n → ZeroFilled n s out 0
-zero-filled-none n s out h e =
+pub zero-filled_none : (n : ℕ) (s out : List ℕ) → length s ≤ n → out ≡ zeros n → ZeroFilled n s out 0
+zero-filled_none n s out h e =
     let z : n ≡ n - 0 = omega arith in
     record { within = omega arith; fits = h; same = e ∙ ap (λ (k : ℕ). zeros k) z }
 
-pub zero-filled-more : {n : ℕ} {s out : List ℕ} {i v : ℕ} → ZeroFilled n s out i → i < length s → v ≡ get_or s i 0 → ZeroFilled n s (set out i v) (i + 1)
-zero-filled-more {n} {s} {out} {i} {v} f h e =
+pub zero-filled_more : {n : ℕ} {s out : List ℕ} {i v : ℕ} → ZeroFilled n s out i → i < length s → v ≡ get_or s i 0 → ZeroFilled n s (set out i v) (i + 1)
+zero-filled_more {n} {s} {out} {i} {v} f h e =
     let z : n - i ≡ suc (n - (i + 1)) = omega (arith, f.fits) in
     let front : length (take i s) ≡ i = length-take-le i s f.within in
     record {
@@ -111,7 +111,7 @@ zero-filled-more {n} {s} {out} {i} {v} f h e =
           (sym (append_snoc (take i s) (get_or s i 0) (zeros (n - suc i))));
     }
 
-pub zero-filled-all : {n : ℕ} {s out : List ℕ} {i : ℕ} → ZeroFilled n s out i → length s ≤ i → out ≡ s ++ zeros (n - length s)
-zero-filled-all {n} {s} {out} {i} f h =
+pub zero-filled_all : {n : ℕ} {s out : List ℕ} {i : ℕ} → ZeroFilled n s out i → length s ≤ i → out ≡ s ++ zeros (n - length s)
+zero-filled_all {n} {s} {out} {i} f h =
     let e : i ≡ length s = omega (arith, f.within) in
     f.same ∙ rw (e, take-length s)

@@ -5,7 +5,7 @@ use Prim.Native.Nat.{ℕ, zero, suc, ◌<◌}
 use native.Mathlib.Decide.{dec_lt}
 use native.Mathlib.Omega.{arith}
 use lib.Dec.{T}
-use Rattle.lists.proofs.Both.{both-computed}
+use Rattle.lists.proofs.Both.{both_computed}
 
 -- f 0, .., f (n - 1) are all true
 abbrev pub all_below : ℕ → (ℕ → Bool) → Bool
@@ -16,7 +16,7 @@ all_below (suc n) f = f n && all_below n f
 pub at_each : (n : ℕ) (f : ℕ → Bool) → T (all_below n f) → (k : ℕ) → k < n → T (f k)
 at_each zero f t k h = absurd (omega arith)
 at_each (suc n) f t k h =
-    let (last, rest) = both-computed (f n) (all_below n f) t in
+    let (last, rest) = both_computed (f n) (all_below n f) t in
     pick last (at_each n f rest k) (dec_lt k n)
   where
     pick : T (f n) → (k < n → T (f k)) → Dec (k < n) → T (f k)

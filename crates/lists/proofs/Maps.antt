@@ -47,49 +47,49 @@ map-id f h (x ∷ a) = cons (h x) (map-id f h a)
 -- ---- zip_with
 
 module _ {ℓ κ μ} {A : Type ℓ} {B : Type κ} {C : Type μ} where
-  pub length-zipWith : (f : A → B → C) (a : List A) (b : List B) → length a ≡ length b → length (zip_with f a b) ≡ length a
+  pub length-zip_with : (f : A → B → C) (a : List A) (b : List B) → length a ≡ length b → length (zip_with f a b) ≡ length a
   unfolding zip_with
-  length-zipWith f [] b h = refl
-  length-zipWith f (x ∷ a) [] h = absurd (omega arith)
-  length-zipWith f (x ∷ a) (y ∷ b) h = ap suc (length-zipWith f a b (suc_inj h))
+  length-zip_with f [] b h = refl
+  length-zip_with f (x ∷ a) [] h = absurd (omega arith)
+  length-zip_with f (x ∷ a) (y ∷ b) h = ap suc (length-zip_with f a b (suc_inj h))
 
-  pub zipWith-append : (f : A → B → C) (a : List A) (b : List B) (a' : List A) (b' : List B) → length a ≡ length b
+  pub zip_with-append : (f : A → B → C) (a : List A) (b : List B) (a' : List A) (b' : List B) → length a ≡ length b
       → zip_with f (a ++ a') (b ++ b') ≡ zip_with f a b ++ zip_with f a' b'
   unfolding zip_with
-  zipWith-append f [] [] a' b' h = refl
-  zipWith-append f [] (y ∷ b) a' b' h = absurd (omega arith)
-  zipWith-append f (x ∷ a) [] a' b' h = absurd (omega arith)
-  zipWith-append f (x ∷ a) (y ∷ b) a' b' h = cons refl (zipWith-append f a b a' b' (suc_inj h))
+  zip_with-append f [] [] a' b' h = refl
+  zip_with-append f [] (y ∷ b) a' b' h = absurd (omega arith)
+  zip_with-append f (x ∷ a) [] a' b' h = absurd (omega arith)
+  zip_with-append f (x ∷ a) (y ∷ b) a' b' h = cons refl (zip_with-append f a b a' b' (suc_inj h))
 
-  pub getD-zipWith : (f : A → B → C) (a : List A) (b : List B) (k : ℕ) (d : A) (d' : B) (e : C) → k < length a → k < length b
+  pub get_or-zip_with : (f : A → B → C) (a : List A) (b : List B) (k : ℕ) (d : A) (d' : B) (e : C) → k < length a → k < length b
       → get_or (zip_with f a b) k e ≡ f (get_or a k d) (get_or b k d')
   unfolding zip_with
-  getD-zipWith f [] b k d d' e h h' = absurd (omega arith)
-  getD-zipWith f (x ∷ a) [] k d d' e h h' = absurd (omega arith)
-  getD-zipWith f (x ∷ a) (y ∷ b) zero d d' e h h' = refl
-  getD-zipWith f (x ∷ a) (y ∷ b) (suc k) d d' e h h' = getD-zipWith f a b k d d' e (omega arith) (omega arith)
+  get_or-zip_with f [] b k d d' e h h' = absurd (omega arith)
+  get_or-zip_with f (x ∷ a) [] k d d' e h h' = absurd (omega arith)
+  get_or-zip_with f (x ∷ a) (y ∷ b) zero d d' e h h' = refl
+  get_or-zip_with f (x ∷ a) (y ∷ b) (suc k) d d' e h h' = get_or-zip_with f a b k d d' e (omega arith) (omega arith)
 
   -- where f x y does not depend on y, or not on x
-  pub zipWith-left : (f : A → B → C) (g : A → C) → ((x : A) (y : B) → f x y ≡ g x) → (a : List A) (b : List B) → length a ≡ length b
+  pub zip_with-left : (f : A → B → C) (g : A → C) → ((x : A) (y : B) → f x y ≡ g x) → (a : List A) (b : List B) → length a ≡ length b
       → zip_with f a b ≡ map g a
   unfolding zip_with
-  zipWith-left f g e [] b h = refl
-  zipWith-left f g e (x ∷ a) [] h = absurd (omega arith)
-  zipWith-left f g e (x ∷ a) (y ∷ b) h = cons (e x y) (zipWith-left f g e a b (suc_inj h))
+  zip_with-left f g e [] b h = refl
+  zip_with-left f g e (x ∷ a) [] h = absurd (omega arith)
+  zip_with-left f g e (x ∷ a) (y ∷ b) h = cons (e x y) (zip_with-left f g e a b (suc_inj h))
 
-  pub zipWith-right : (f : A → B → C) (g : B → C) → ((x : A) (y : B) → f x y ≡ g y) → (a : List A) (b : List B) → length a ≡ length b
+  pub zip_with-right : (f : A → B → C) (g : B → C) → ((x : A) (y : B) → f x y ≡ g y) → (a : List A) (b : List B) → length a ≡ length b
       → zip_with f a b ≡ map g b
   unfolding zip_with
-  zipWith-right f g e [] [] h = refl
-  zipWith-right f g e [] (y ∷ b) h = absurd (omega arith)
-  zipWith-right f g e (x ∷ a) [] h = absurd (omega arith)
-  zipWith-right f g e (x ∷ a) (y ∷ b) h = cons (e x y) (zipWith-right f g e a b (suc_inj h))
+  zip_with-right f g e [] [] h = refl
+  zip_with-right f g e [] (y ∷ b) h = absurd (omega arith)
+  zip_with-right f g e (x ∷ a) [] h = absurd (omega arith)
+  zip_with-right f g e (x ∷ a) (y ∷ b) h = cons (e x y) (zip_with-right f g e a b (suc_inj h))
 
-  pub zipWith-same : (f g : A → B → C) → ((x : A) (y : B) → f x y ≡ g x y) → (a : List A) (b : List B) → zip_with f a b ≡ zip_with g a b
+  pub zip_with-same : (f g : A → B → C) → ((x : A) (y : B) → f x y ≡ g x y) → (a : List A) (b : List B) → zip_with f a b ≡ zip_with g a b
   unfolding zip_with
-  zipWith-same f g e [] b = refl
-  zipWith-same f g e (x ∷ a) [] = refl
-  zipWith-same f g e (x ∷ a) (y ∷ b) = cons (e x y) (zipWith-same f g e a b)
+  zip_with-same f g e [] b = refl
+  zip_with-same f g e (x ∷ a) [] = refl
+  zip_with-same f g e (x ∷ a) (y ∷ b) = cons (e x y) (zip_with-same f g e a b)
 
 pub map-zip {ℓ κ} : {A : Type ℓ} {B : Type κ} (h : A → B) (f : A → A → A) (a b : List A) → map h (zip_with f a b) ≡ zip_with (λ x y. h (f x y)) a b
 unfolding zip_with
@@ -98,17 +98,17 @@ map-zip h f (x ∷ a) [] = refl
 map-zip h f (x ∷ a) (y ∷ b) = cons refl (map-zip h f a b)
 
 -- a map h that takes f to g takes `zip_with f` to `zip_with g`
-pub map-zipWith {ℓ κ} : {A : Type ℓ} {B : Type κ} (h : A → B) (f : A → A → A) (g : B → B → B) → ((x y : A) → h (f x y) ≡ g (h x) (h y))
+pub map-zip_with {ℓ κ} : {A : Type ℓ} {B : Type κ} (h : A → B) (f : A → A → A) (g : B → B → B) → ((x y : A) → h (f x y) ≡ g (h x) (h y))
     → (a b : List A) → map h (zip_with f a b) ≡ zip_with g (map h a) (map h b)
 unfolding zip_with
-map-zipWith h f g e [] b = refl
-map-zipWith h f g e (x ∷ a) [] = refl
-map-zipWith h f g e (x ∷ a) (y ∷ b) = cons (e x y) (map-zipWith h f g e a b)
+map-zip_with h f g e [] b = refl
+map-zip_with h f g e (x ∷ a) [] = refl
+map-zip_with h f g e (x ∷ a) (y ∷ b) = cons (e x y) (map-zip_with h f g e a b)
 
 -- h at the results of f and of g, entry by entry
-pub zipWith-zipWith {ℓ} : {A : Type ℓ} (h f g : A → A → A) (a b : List A)
+pub zip_with-zip_with {ℓ} : {A : Type ℓ} (h f g : A → A → A) (a b : List A)
     → zip_with h (zip_with f a b) (zip_with g a b) ≡ zip_with (λ x y. h (f x y) (g x y)) a b
 unfolding zip_with
-zipWith-zipWith h f g [] b = refl
-zipWith-zipWith h f g (x ∷ a) [] = refl
-zipWith-zipWith h f g (x ∷ a) (y ∷ b) = cons refl (zipWith-zipWith h f g a b)
+zip_with-zip_with h f g [] b = refl
+zip_with-zip_with h f g (x ∷ a) [] = refl
+zip_with-zip_with h f g (x ∷ a) (y ∷ b) = cons refl (zip_with-zip_with h f g a b)

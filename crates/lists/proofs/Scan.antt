@@ -11,86 +11,86 @@ use lib.Dec.{leb, eqb}
 use lib.ListN.{length, get_or, drop, length-drop}
 use lib.Seq.{drop-cons, drop-length, get_or-drop}
 use borrow.Author.Tests.{le-leb, lt-leb, eq-eqb, ne_eqb}
-use Rattle.lists.specs.First.{firstFailing}
+use Rattle.lists.specs.First.{first_failing}
 
 -- the first i entries of xs pass
 pub record Passed (good : ℕ → Bool) (xs : List ℕ) (i : ℕ) : Type 0 where
   pub within : i ≤ length xs
-  pub left : firstFailing good xs ≡ i + firstFailing good (drop i xs)
+  pub left : first_failing good xs ≡ i + first_failing good (drop i xs)
 
 pub passed_none : (good : ℕ → Bool) (xs : List ℕ) → Passed good xs 0
 passed_none good xs = record { within = omega arith; left = sym (zero-add _) }
 
-pub passed-more : {good : ℕ → Bool} {xs : List ℕ} {i : ℕ} → Passed good xs i → i < length xs → good (get_or xs i 0) ≡ true → Passed good xs (i + 1)
-unfolding firstFailing
-passed-more {good} {xs} {i} p h g =
-    let e : firstFailing good (drop i xs) ≡ suc (firstFailing good (drop (i + 1) xs)) = rw (drop-cons xs i 0 h, g, add-one) in
+pub passed_more : {good : ℕ → Bool} {xs : List ℕ} {i : ℕ} → Passed good xs i → i < length xs → good (get_or xs i 0) ≡ true → Passed good xs (i + 1)
+unfolding first_failing
+passed_more {good} {xs} {i} p h g =
+    let e : first_failing good (drop i xs) ≡ suc (first_failing good (drop (i + 1) xs)) = rw (drop-cons xs i 0 h, g, add-one) in
     record { within = omega arith; left = omega (arith, p.left, e) }
 
 -- the entry at i fails
-pub passed-stop : {good : ℕ → Bool} {xs : List ℕ} {i : ℕ} → Passed good xs i → i < length xs → good (get_or xs i 0) ≡ false → i ≡ firstFailing good xs
-unfolding firstFailing
+pub passed-stop : {good : ℕ → Bool} {xs : List ℕ} {i : ℕ} → Passed good xs i → i < length xs → good (get_or xs i 0) ≡ false → i ≡ first_failing good xs
+unfolding first_failing
 passed-stop {good} {xs} {i} p h g =
-    let e : firstFailing good (drop i xs) ≡ 0 = rw (drop-cons xs i 0 h, g) in
+    let e : first_failing good (drop i xs) ≡ 0 = rw (drop-cons xs i 0 h, g) in
     omega (arith, p.left, e)
 
-pub passed-all : {good : ℕ → Bool} {xs : List ℕ} {i : ℕ} → Passed good xs i → length xs ≤ i → i ≡ firstFailing good xs
-unfolding firstFailing
-passed-all {good} {xs} {i} p h =
+pub passed_all : {good : ℕ → Bool} {xs : List ℕ} {i : ℕ} → Passed good xs i → length xs ≤ i → i ≡ first_failing good xs
+unfolding first_failing
+passed_all {good} {xs} {i} p h =
     let n : i ≡ length xs = omega (arith, p.within) in
-    let e : firstFailing good (drop i xs) ≡ 0 = rw (n, drop-length) in
+    let e : first_failing good (drop i xs) ≡ 0 = rw (n, drop-length) in
     omega (arith, p.left, e)
 
--- ---- what `firstFailing` finds
+-- ---- what `first_failing` finds
 
-pub first-within : (good : ℕ → Bool) (xs : List ℕ) → firstFailing good xs ≤ length xs
-unfolding firstFailing
+pub first-within : (good : ℕ → Bool) (xs : List ℕ) → first_failing good xs ≤ length xs
+unfolding first_failing
 first-within good [] = omega arith
 first-within good (x ∷ xs) = either (good x) (first-within good xs)
   where
-    either : (t : Bool) → firstFailing good xs ≤ length xs → cond t (suc (firstFailing good xs)) 0 ≤ suc (length xs)
+    either : (t : Bool) → first_failing good xs ≤ length xs → cond t (suc (first_failing good xs)) 0 ≤ suc (length xs)
     either true h = omega arith
     either false h = omega arith
 
-pub before-first : (good : ℕ → Bool) (xs : List ℕ) (k : ℕ) → k < firstFailing good xs → good (get_or xs k 0) ≡ true
-unfolding firstFailing
+pub before-first : (good : ℕ → Bool) (xs : List ℕ) (k : ℕ) → k < first_failing good xs → good (get_or xs k 0) ≡ true
+unfolding first_failing
 before-first good [] k h = absurd (omega arith)
 before-first good (x ∷ xs) k h = at k (before-first good xs) (good x) refl h
   where
-    at : (k : ℕ) → ((j : ℕ) → j < firstFailing good xs → good (get_or xs j 0) ≡ true) → (t : Bool) → good x ≡ t
-        → k < cond t (suc (firstFailing good xs)) 0 → good (get_or (x ∷ xs) k 0) ≡ true
+    at : (k : ℕ) → ((j : ℕ) → j < first_failing good xs → good (get_or xs j 0) ≡ true) → (t : Bool) → good x ≡ t
+        → k < cond t (suc (first_failing good xs)) 0 → good (get_or (x ∷ xs) k 0) ≡ true
     at zero rest true e l = e
     at (suc j) rest true e l = rest j (omega arith)
     at j rest false e l = absurd (omega arith)
 
 -- every entry passes, so none is found
-pub first-none : (good : ℕ → Bool) (xs : List ℕ) → ((i : ℕ) → i < length xs → good (get_or xs i 0) ≡ true) → firstFailing good xs ≡ length xs
-unfolding firstFailing
+pub first-none : (good : ℕ → Bool) (xs : List ℕ) → ((i : ℕ) → i < length xs → good (get_or xs i 0) ≡ true) → first_failing good xs ≡ length xs
+unfolding first_failing
 first-none good [] h = refl
 first-none good (x ∷ xs) h = rw (h 0 (omega arith)) (ap suc (first-none good xs (λ i l. h (suc i) (omega arith))))
 
 -- none is found, so every entry passes
-pub first_passes : (good : ℕ → Bool) (xs : List ℕ) → length xs ≤ firstFailing good xs → (i : ℕ) → i < length xs → good (get_or xs i 0) ≡ true
+pub first_passes : (good : ℕ → Bool) (xs : List ℕ) → length xs ≤ first_failing good xs → (i : ℕ) → i < length xs → good (get_or xs i 0) ≡ true
 first_passes good xs e i h = before-first good xs i (omega arith)
 
 -- what is found fails
-pub first-fails : (good : ℕ → Bool) (xs : List ℕ) → firstFailing good xs < length xs → good (get_or xs (firstFailing good xs) 0) ≡ false
-unfolding firstFailing
+pub first-fails : (good : ℕ → Bool) (xs : List ℕ) → first_failing good xs < length xs → good (get_or xs (first_failing good xs) 0) ≡ false
+unfolding first_failing
 first-fails good [] h = absurd (omega arith)
 first-fails good (x ∷ xs) h = by (good x) refl h (first-fails good xs)
   where
-    by : (b : Bool) → good x ≡ b → cond b (suc (firstFailing good xs)) 0 < suc (length xs)
-        → (firstFailing good xs < length xs → good (get_or xs (firstFailing good xs) 0) ≡ false)
-        → good (get_or (x ∷ xs) (cond b (suc (firstFailing good xs)) 0) 0) ≡ false
+    by : (b : Bool) → good x ≡ b → cond b (suc (first_failing good xs)) 0 < suc (length xs)
+        → (first_failing good xs < length xs → good (get_or xs (first_failing good xs) 0) ≡ false)
+        → good (get_or (x ∷ xs) (cond b (suc (first_failing good xs)) 0) 0) ≡ false
     by true p h rest = rest (omega arith)
     by false p h rest = p
 
 -- the first i entries pass, and so do the others
 pub passed-rest : {good : ℕ → Bool} {xs : List ℕ} {i : ℕ} → Passed good xs i → ((k : ℕ) → i ≤ k → k < length xs → good (get_or xs k 0) ≡ true)
-    → firstFailing good xs ≡ length xs
+    → first_failing good xs ≡ length xs
 passed-rest {good} {xs} {i} p h =
     let size : length (drop i xs) ≡ length xs - i = length-drop i xs in
-    let rest : firstFailing good (drop i xs) ≡ length (drop i xs) =
+    let rest : first_failing good (drop i xs) ≡ length (drop i xs) =
     first-none good (drop i xs) (λ k l. rw (get_or-drop i xs k 0) (h (i + k) (omega arith) (omega arith))) in
     omega (arith, p.left, p.within, rest)
 
@@ -98,18 +98,18 @@ passed-rest {good} {xs} {i} p h =
 
 pub record Scanned (good : ℕ → Bool) (xs : List ℕ) (all : Bool) (i : ℕ) : Type 0 where
   pub within : i ≤ length xs
-  pub so_far : all ≡ leb i (firstFailing good xs)
+  pub so_far : all ≡ leb i (first_failing good xs)
 
-pub scanned-none : (good : ℕ → Bool) (xs : List ℕ) → Scanned good xs true 0
-scanned-none good xs = record { within = omega arith; so_far = sym (le-leb 0 (firstFailing good xs) (omega arith)) }
+pub scanned_none : (good : ℕ → Bool) (xs : List ℕ) → Scanned good xs true 0
+scanned_none good xs = record { within = omega arith; so_far = sym (le-leb 0 (first_failing good xs) (omega arith)) }
 
 -- the entry at i passes
-pub scanned-pass : {good : ℕ → Bool} {xs : List ℕ} {all : Bool} {i : ℕ} → Scanned good xs all i → i < length xs → good (get_or xs i 0) ≡ true
+pub scanned_pass : {good : ℕ → Bool} {xs : List ℕ} {all : Bool} {i : ℕ} → Scanned good xs all i → i < length xs → good (get_or xs i 0) ≡ true
     → Scanned good xs all (i + 1)
-scanned-pass {good} {xs} {all} {i} s h g = record { within = omega arith; so_far = s.so_far ∙ by (dec_le i f) (dec_le (i + 1) f) }
+scanned_pass {good} {xs} {all} {i} s h g = record { within = omega arith; so_far = s.so_far ∙ by (dec_le i f) (dec_le (i + 1) f) }
   where
     f : ℕ
-    f = firstFailing good xs
+    f = first_failing good xs
 
     by : Dec (i ≤ f) → Dec (i + 1 ≤ f) → leb i f ≡ leb (i + 1) f
     by (yes l) (yes m) = le-leb i f l ∙ sym (le-leb (i + 1) f m)
@@ -119,23 +119,23 @@ scanned-pass {good} {xs} {all} {i} s h g = record { within = omega arith; so_far
     by (no l) d = lt-leb i f (omega arith) ∙ sym (lt-leb (i + 1) f (omega arith))
 
 -- the entry at i fails
-pub scanned-fail : {good : ℕ → Bool} {xs : List ℕ} {all : Bool} {i : ℕ} → Scanned good xs all i → i < length xs → good (get_or xs i 0) ≡ false
+pub scanned_fail : {good : ℕ → Bool} {xs : List ℕ} {all : Bool} {i : ℕ} → Scanned good xs all i → i < length xs → good (get_or xs i 0) ≡ false
     → Scanned good xs false (i + 1)
-scanned-fail {good} {xs} {all} {i} s h g = record { within = omega arith; so_far = by (dec_le (i + 1) f) }
+scanned_fail {good} {xs} {all} {i} s h g = record { within = omega arith; so_far = by (dec_le (i + 1) f) }
   where
     f : ℕ
-    f = firstFailing good xs
+    f = first_failing good xs
 
     by : Dec (i + 1 ≤ f) → false ≡ leb (i + 1) f
     by (yes l) = sym g ∙ before-first good xs i (omega arith) ∙ sym (le-leb (i + 1) f l)
     by (no l) = sym (lt-leb (i + 1) f (omega arith))
 
-pub scanned-all : {good : ℕ → Bool} {xs : List ℕ} {all : Bool} {i : ℕ} → Scanned good xs all i → length xs ≤ i
-    → all ≡ eqb (firstFailing good xs) (length xs)
-scanned-all {good} {xs} {all} {i} s h = s.so_far ∙ by (dec_le i f)
+pub scanned_all : {good : ℕ → Bool} {xs : List ℕ} {all : Bool} {i : ℕ} → Scanned good xs all i → length xs ≤ i
+    → all ≡ eqb (first_failing good xs) (length xs)
+scanned_all {good} {xs} {all} {i} s h = s.so_far ∙ by (dec_le i f)
   where
     f : ℕ
-    f = firstFailing good xs
+    f = first_failing good xs
 
     by : Dec (i ≤ f) → leb i f ≡ eqb f (length xs)
     by (yes l) = le-leb i f l ∙ sym (eq-eqb f (length xs) (omega (arith, s.within, first-within good xs)))

@@ -2,7 +2,7 @@
 ghost use Rattle.std.specs.Prelude.{◌≡◌, ◌++◌, ◌+◌, ◌≤◌, min, length, take, drop};
 ghost use Rattle.lists.specs.Table.{zeros};
 ghost use Rattle.text.specs.Text.{written};
-ghost use Rattle.location_text.specs.Words.{recordName, partName, textLength, locationText};
+ghost use Rattle.location_text.specs.Words.{record_name, part_name, text_length, location_text};
 
 use answers::Location;
 
@@ -19,8 +19,8 @@ pub struct Text {
 // Writes the name of a record at a place of a buffer, as `text::put` does.
 fn put_record(out: &mut [u8], at: usize, kind: u32) -> usize
     requires { at ≤ length out.old }
-    ensures value { result ≡ min (at + length (recordName kind)) (length out.old) }
-    ensures out_after { out.new ≡ take at out.old ++ written (recordName kind) (drop at out.old) }
+    ensures value { result ≡ min (at + length (record_name kind)) (length out.old) }
+    ensures out_after { out.new ≡ take at out.old ++ written (record_name kind) (drop at out.old) }
 {
     match kind {
         1 => text::put(out, at, b"public_key"),
@@ -35,8 +35,8 @@ fn put_record(out: &mut [u8], at: usize, kind: u32) -> usize
 // Writes the name of a part likewise.
 fn put_part(out: &mut [u8], at: usize, part: u32) -> usize
     requires { at ≤ length out.old }
-    ensures value { result ≡ min (at + length (partName part)) (length out.old) }
-    ensures out_after { out.new ≡ take at out.old ++ written (partName part) (drop at out.old) }
+    ensures value { result ≡ min (at + length (part_name part)) (length out.old) }
+    ensures out_after { out.new ≡ take at out.old ++ written (part_name part) (drop at out.old) }
 {
     match part {
         1 => text::put(out, at, b"a"),
@@ -50,8 +50,8 @@ fn put_part(out: &mut [u8], at: usize, part: u32) -> usize
 
 // The words of any location.
 pub fn words(l: Location) -> Text
-    ensures bytes_value { result.bytes ≡ written (locationText l) (zeros textLength) }
-    ensures length_value { (result.length ≡ length (locationText l)) × (result.length ≤ textLength) }
+    ensures bytes_value { result.bytes ≡ written (location_text l) (zeros text_length) }
+    ensures length_value { (result.length ≡ length (location_text l)) × (result.length ≤ text_length) }
 {
     let mut bytes = [0u8; TEXT_LENGTH];
     if l.kind == 0 {

@@ -3,8 +3,8 @@
 // writes its number to standard error and nothing else. The exit status is always 0, since the language has no other.
 ghost use Rattle.std.specs.Prelude.{◌≡◌, ◌+◌};
 ghost use Rattle.lists.specs.Table.{zeros};
-ghost use Rattle.records.specs.Layout.{publicKeyLength, secretKeyLength};
-ghost use Rattle.make_key_output.specs.MakeKey.{inputLength};
+ghost use Rattle.records.specs.Layout.{public_key_length, secret_key_length};
+ghost use Rattle.make_key_output.specs.MakeKey.{input_length};
 
 use libc::{STDERR_FILENO, STDIN_FILENO, STDOUT_FILENO};
 use make_key_output::INPUT_LENGTH;
@@ -12,19 +12,19 @@ use records::{PUBLIC_KEY_LENGTH, SECRET_KEY_LENGTH};
 
 // One byte more than the longer input has, so that longer input is told from input that fits, and an endless one ends.
 fn input_buffer() -> [u8; INPUT_LENGTH + 1]
-    ensures { result ≡ zeros (inputLength + 1) }
+    ensures { result ≡ zeros (input_length + 1) }
 {
     [0; INPUT_LENGTH + 1]
 }
 
 fn public_buffer() -> [u8; PUBLIC_KEY_LENGTH]
-    ensures { result ≡ zeros publicKeyLength }
+    ensures { result ≡ zeros public_key_length }
 {
     [0; PUBLIC_KEY_LENGTH]
 }
 
 fn secret_buffer() -> [u8; SECRET_KEY_LENGTH]
-    ensures { result ≡ zeros secretKeyLength }
+    ensures { result ≡ zeros secret_key_length }
 {
     [0; SECRET_KEY_LENGTH]
 }

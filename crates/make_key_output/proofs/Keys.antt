@@ -7,112 +7,112 @@ use native.Mathlib.Omega.{arith}
 use lib.ListN.{length, take, drop, take-append-drop}
 use lib.Seq.{take_all, length-take-le}
 use borrow.Author.Tests.{eqb-true, ne_eqb}
-use Rattle.seeds.specs.Seeds.{seedStream}
+use Rattle.seeds.specs.Seeds.{seed_stream}
 use Rattle.answers.specs.declared.Refusal.TheVariants.{WrongLength}
 use Rattle.answers.specs.declared.Answer.{Answer}
 use Rattle.answers.specs.declared.Answer.TheVariants.{Done, Refused}
-use Rattle.answers.specs.Answers.{onDone}
-use Rattle.records.specs.Layout.{publicKeyMark}
+use Rattle.answers.specs.Answers.{on_done}
+use Rattle.records.specs.Layout.{public_key_mark}
 use Rattle.records.specs.Records.{part}
-use Rattle.records.proofs.Writing.{length-recordBytes}
-use Rattle.records.proofs.WrittenRecords.{part_length, length-seeded}
-use Rattle.calls.specs.Calls.{keygenAnswer, newPublicKey, newSecretKey, keygenPublic, keygenSecret}
-use Rattle.calls.specs.Calls.{seededKeygenAnswer, newSeededKey, seededKeygenPublic, seededKeygenSecret}
+use Rattle.records.proofs.Writing.{length-record_bytes}
+use Rattle.records.proofs.WrittenRecords.{part_length, length_seeded}
+use Rattle.calls.specs.Calls.{keygen_answer, new_public_key, new_secret_key, keygen_public, keygen_secret}
+use Rattle.calls.specs.Calls.{seeded_keygen_answer, new_seeded_key, seeded_keygen_public, seeded_keygen_secret}
 use Rattle.text.specs.Text.{written}
-use Rattle.text.proofs.Texts.{written-fits, written-full}
-use Rattle.make_key_output.specs.MakeKey.{seeded?, makeKeyAnswer, publicKey, secretKey}
+use Rattle.text.proofs.Texts.{written-fits, written_full}
+use Rattle.make_key_output.specs.MakeKey.{is_seeded_key, make_key_answer, public_key, secret_key}
 
 -- ---- lengths of the public key
 
-pub seeded-length : (input : List ℕ) → length input ≡ 1056 → length (publicKey input) ≡ 2085
-unfolding publicKey newSeededKey
-seeded-length input size = rw size (length-seeded (part 0 32 input) _ (part_length 0 32 input (omega arith)))
+pub seeded_length : (input : List ℕ) → length input ≡ 1056 → length (public_key input) ≡ 2085
+unfolding public_key new_seeded_key
+seeded_length input size = rw size (length_seeded (part 0 32 input) _ (part_length 0 32 input (omega arith)))
 
-pub long-length : (input : List ℕ) → seeded? input ≡ false → length (publicKey input) ≡ 4101
-unfolding publicKey newPublicKey
-long-length input kind = rw kind (length-recordBytes publicKeyMark 1 _ _)
+pub long_length : (input : List ℕ) → is_seeded_key input ≡ false → length (public_key input) ≡ 4101
+unfolding public_key new_public_key
+long_length input kind = rw kind (length-record_bytes public_key_mark 1 _ _)
 
-pub public-room : (input : List ℕ) → length (publicKey input) ≤ 4101
-public-room input = by (seeded? input) refl
+pub public-room : (input : List ℕ) → length (public_key input) ≤ 4101
+public-room input = by (is_seeded_key input) refl
   where
-    by : (kind : Bool) → seeded? input ≡ kind → length (publicKey input) ≤ 4101
-    by true e = omega (arith, seeded-length input (eqb-true (length input) 1056 e))
-    by false e = omega (arith, long-length input e)
+    by : (kind : Bool) → is_seeded_key input ≡ kind → length (public_key input) ≤ 4101
+    by true e = omega (arith, seeded_length input (eqb-true (length input) 1056 e))
+    by false e = omega (arith, long_length input e)
 
 -- ---- the public key's buffer
 
 -- the key fills it
-in_all : (a : Answer) (new old : List ℕ) → length new ≡ length old → onDone a new old ≡ onDone a (written new old) old
-in_all a new old size = ap (λ (l : List ℕ). onDone a l old) (sym (written-full new old (omega arith) ∙ take_all (length old) new (omega arith)))
+in_all : (a : Answer) (new old : List ℕ) → length new ≡ length old → on_done a new old ≡ on_done a (written new old) old
+in_all a new old size = ap (λ (l : List ℕ). on_done a l old) (sym (written_full new old (omega arith) ∙ take_all (length old) new (omega arith)))
 
 -- the key fills the first k bytes, which were lent
-in-front : (a : Answer) (new old : List ℕ) {k : ℕ} → length new ≡ k → k ≤ length old → onDone a new (take k old) ++ drop k old ≡ onDone a (written new old) old
-in-front Done new old size room = sym (written-fits new old (omega arith) ∙ rw size)
-in-front (Refused r) new old {k} size room = take-append-drop k old
+in_front_lem : (a : Answer) (new old : List ℕ) {k : ℕ} → length new ≡ k → k ≤ length old → on_done a new (take k old) ++ drop k old ≡ on_done a (written new old) old
+in_front_lem Done new old size room = sym (written-fits new old (omega arith) ∙ rw size)
+in_front_lem (Refused r) new old {k} size room = take-append-drop k old
 
 -- ---- an input with a stream: what key generation gives is what the definitions say
 
 module _ (input : List ℕ) (size : length input ≡ 3712) where
-  long-answer : keygenAnswer (part 0 2688 input) (part 2688 512 input) (part 3200 512 input) 4101 4357 ≡ makeKeyAnswer input
-  unfolding makeKeyAnswer
+  long-answer : keygen_answer (part 0 2688 input) (part 2688 512 input) (part 3200 512 input) 4101 4357 ≡ make_key_answer input
+  unfolding make_key_answer
   long-answer = rw size
 
-  long-public : newPublicKey (part 0 2688 input) (part 2688 512 input) (part 3200 512 input) ≡ publicKey input
-  unfolding publicKey
-  long-public = rw size
+  long_public : new_public_key (part 0 2688 input) (part 2688 512 input) (part 3200 512 input) ≡ public_key input
+  unfolding public_key
+  long_public = rw size
 
-  long-secret : newSecretKey (part 0 2688 input) (part 2688 512 input) (part 3200 512 input) ≡ secretKey input
-  unfolding secretKey
+  long-secret : new_secret_key (part 0 2688 input) (part 2688 512 input) (part 3200 512 input) ≡ secret_key input
+  unfolding secret_key
   long-secret = rw size
 
   pub of-stream : (public secret : List ℕ) {a : Answer} {p q : List ℕ} → length public ≡ 4101 → length secret ≡ 4357
-      → a ≡ keygenAnswer (part 0 2688 input) (part 2688 512 input) (part 3200 512 input) (length public) (length secret)
-      → p ≡ keygenPublic (part 0 2688 input) (part 2688 512 input) (part 3200 512 input) public secret
-      → q ≡ keygenSecret (part 0 2688 input) (part 2688 512 input) (part 3200 512 input) public secret
-      → (a ≡ makeKeyAnswer input) × ((p ≡ onDone a (written (publicKey input) public) public) × (q ≡ onDone a (secretKey input) secret))
-  unfolding keygenPublic keygenSecret
+      → a ≡ keygen_answer (part 0 2688 input) (part 2688 512 input) (part 3200 512 input) (length public) (length secret)
+      → p ≡ keygen_public (part 0 2688 input) (part 2688 512 input) (part 3200 512 input) public secret
+      → q ≡ keygen_secret (part 0 2688 input) (part 2688 512 input) (part 3200 512 input) public secret
+      → (a ≡ make_key_answer input) × ((p ≡ on_done a (written (public_key input) public) public) × (q ≡ on_done a (secret_key input) secret))
+  unfolding keygen_public keygen_secret
   of-stream public secret {a} room-p room-s answered new-public new-secret = (
-    answered ∙ ap₂ (keygenAnswer (part 0 2688 input) (part 2688 512 input) (part 3200 512 input)) room-p room-s ∙ long-answer,
+    answered ∙ ap₂ (keygen_answer (part 0 2688 input) (part 2688 512 input) (part 3200 512 input)) room-p room-s ∙ long-answer,
     (
-      new-public ∙ ap₂ (λ (x : Answer) (l : List ℕ). onDone x l public) (sym answered) long-public
-          ∙ in_all a (publicKey input) public (long-length input (ne_eqb (length input) 1056 (λ e. omega arith)) ∙ sym room-p),
-      new-secret ∙ ap₂ (λ (x : Answer) (l : List ℕ). onDone x l secret) (sym answered) long-secret,
+      new-public ∙ ap₂ (λ (x : Answer) (l : List ℕ). on_done x l public) (sym answered) long_public
+          ∙ in_all a (public_key input) public (long_length input (ne_eqb (length input) 1056 (λ e. omega arith)) ∙ sym room-p),
+      new-secret ∙ ap₂ (λ (x : Answer) (l : List ℕ). on_done x l secret) (sym answered) long-secret,
     ),
   )
 
 -- ---- an input with a seed
 
 module _ (input : List ℕ) (size : length input ≡ 1056) where
-  seeded-answer : seededKeygenAnswer (part 0 32 input) (part 32 512 input) (part 544 512 input) 2085 4357 ≡ makeKeyAnswer input
-  unfolding makeKeyAnswer
+  seeded-answer : seeded_keygen_answer (part 0 32 input) (part 32 512 input) (part 544 512 input) 2085 4357 ≡ make_key_answer input
+  unfolding make_key_answer
   seeded-answer = rw size
 
-  seeded-public : newSeededKey (part 0 32 input) (part 32 512 input) (part 544 512 input) ≡ publicKey input
-  unfolding publicKey
-  seeded-public = rw size
+  seeded_public : new_seeded_key (part 0 32 input) (part 32 512 input) (part 544 512 input) ≡ public_key input
+  unfolding public_key
+  seeded_public = rw size
 
-  seeded-secret : newSecretKey (seedStream (part 0 32 input)) (part 32 512 input) (part 544 512 input) ≡ secretKey input
-  unfolding secretKey
+  seeded-secret : new_secret_key (seed_stream (part 0 32 input)) (part 32 512 input) (part 544 512 input) ≡ secret_key input
+  unfolding secret_key
   seeded-secret = rw size
 
   -- the first 2,085 bytes of the public key's buffer are lent
-  pub of-seed : (public secret : List ℕ) {a : Answer} {p q : List ℕ} → length public ≡ 4101 → length secret ≡ 4357
-      → a ≡ seededKeygenAnswer (part 0 32 input) (part 32 512 input) (part 544 512 input) (length (take 2085 public)) (length secret)
-      → p ≡ seededKeygenPublic (part 0 32 input) (part 32 512 input) (part 544 512 input) (take 2085 public) secret
-      → q ≡ seededKeygenSecret (part 0 32 input) (part 32 512 input) (part 544 512 input) (take 2085 public) secret
-      → (a ≡ makeKeyAnswer input) × ((p ++ drop 2085 public ≡ onDone a (written (publicKey input) public) public) × (q ≡ onDone a (secretKey input) secret))
-  unfolding seededKeygenPublic seededKeygenSecret
-  of-seed public secret {a} room-p room-s answered new-public new-secret = (
-    answered ∙ ap₂ (seededKeygenAnswer (part 0 32 input) (part 32 512 input) (part 544 512 input)) (length-take-le 2085 public (omega arith)) room-s ∙ seeded-answer,
+  pub of_seed : (public secret : List ℕ) {a : Answer} {p q : List ℕ} → length public ≡ 4101 → length secret ≡ 4357
+      → a ≡ seeded_keygen_answer (part 0 32 input) (part 32 512 input) (part 544 512 input) (length (take 2085 public)) (length secret)
+      → p ≡ seeded_keygen_public (part 0 32 input) (part 32 512 input) (part 544 512 input) (take 2085 public) secret
+      → q ≡ seeded_keygen_secret (part 0 32 input) (part 32 512 input) (part 544 512 input) (take 2085 public) secret
+      → (a ≡ make_key_answer input) × ((p ++ drop 2085 public ≡ on_done a (written (public_key input) public) public) × (q ≡ on_done a (secret_key input) secret))
+  unfolding seeded_keygen_public seeded_keygen_secret
+  of_seed public secret {a} room-p room-s answered new-public new-secret = (
+    answered ∙ ap₂ (seeded_keygen_answer (part 0 32 input) (part 32 512 input) (part 544 512 input)) (length-take-le 2085 public (omega arith)) room-s ∙ seeded-answer,
     (
-      ap (λ (l : List ℕ). l ++ drop 2085 public) (new-public ∙ ap₂ (λ (x : Answer) (l : List ℕ). onDone x l (take 2085 public)) (sym answered) seeded-public)
-          ∙ in-front a (publicKey input) public (seeded-length input size) (omega arith),
-      new-secret ∙ ap₂ (λ (x : Answer) (l : List ℕ). onDone x l secret) (sym answered) seeded-secret,
+      ap (λ (l : List ℕ). l ++ drop 2085 public) (new-public ∙ ap₂ (λ (x : Answer) (l : List ℕ). on_done x l (take 2085 public)) (sym answered) seeded_public)
+          ∙ in_front_lem a (public_key input) public (seeded_length input size) (omega arith),
+      new-secret ∙ ap₂ (λ (x : Answer) (l : List ℕ). on_done x l secret) (sym answered) seeded-secret,
     ),
   )
 
 -- ---- an input of any other length
 
-pub other-answer : (input : List ℕ) → ¬ (length input ≡ 1056) → ¬ (length input ≡ 3712) → makeKeyAnswer input ≡ Refused WrongLength
-unfolding makeKeyAnswer
+pub other-answer : (input : List ℕ) → ¬ (length input ≡ 1056) → ¬ (length input ≡ 3712) → make_key_answer input ≡ Refused WrongLength
+unfolding make_key_answer
 other-answer input no-seed no_stream = rw (ne_eqb (length input) 1056 no-seed, ne_eqb (length input) 3712 no_stream)

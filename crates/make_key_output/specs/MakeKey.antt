@@ -2,65 +2,65 @@
 use Rattle.std.specs.Prelude.{Bool, cond, List, [], ◌++◌, ℕ, ◌+◌, ◌-◌, eqb, length}
 use Rattle.answers.specs.declared.Refusal.TheVariants.{WrongLength}
 use Rattle.answers.specs.declared.Answer.{Answer}
-use Rattle.answers.specs.Answers.{unless, onDone}
-use Rattle.records.specs.Layout.{publicKeyLength, seedLength, seededKeyLength, secretKeyLength}
+use Rattle.answers.specs.Answers.{unless, on_done}
+use Rattle.records.specs.Layout.{public_key_length, seed_length, seeded_key_length, secret_key_length}
 use Rattle.records.specs.Records.{part}
-use Rattle.sampling.specs.Noise.{noiseLength}
-use Rattle.sampling.specs.Stream.{streamLength}
-use Rattle.seeds.specs.Seeds.{seedStream}
-use Rattle.calls.specs.Calls.{keygenAnswer, newPublicKey, newSecretKey, seededKeygenAnswer, newSeededKey}
-use Rattle.refusal_line.specs.Line.{refusalLine}
+use Rattle.sampling.specs.Noise.{noise_length}
+use Rattle.sampling.specs.Stream.{stream_length}
+use Rattle.seeds.specs.Seeds.{seed_stream}
+use Rattle.calls.specs.Calls.{keygen_answer, new_public_key, new_secret_key, seeded_keygen_answer, new_seeded_key}
+use Rattle.refusal_line.specs.Line.{refusal_line}
 
 -- ---- the input: a stream or a seed, then the noise of s and the noise of e
 
 -- with a stream
-abbrev pub inputLength : ℕ
-inputLength = 3712
+abbrev pub input_length : ℕ
+input_length = 3712
 
 -- with a seed
-abbrev pub seededInputLength : ℕ
-seededInputLength = 1056
+abbrev pub seeded_input_length : ℕ
+seeded_input_length = 1056
 
-abbrev pub seeded? : (input : List ℕ) → Bool
-seeded? input = eqb (length input) seededInputLength
+abbrev pub is_seeded_key : (input : List ℕ) → Bool
+is_seeded_key input = eqb (length input) seeded_input_length
 
-abbrev pub streamPart : (input : List ℕ) → List ℕ
-streamPart input = part 0 streamLength input
+abbrev pub stream_part : (input : List ℕ) → List ℕ
+stream_part input = part 0 stream_length input
 
-abbrev pub seedPart : (input : List ℕ) → List ℕ
-seedPart input = part 0 seedLength input
+abbrev pub seed_part : (input : List ℕ) → List ℕ
+seed_part input = part 0 seed_length input
 
 -- the noise is the last 1,024 bytes
-abbrev pub noisePlace : (input : List ℕ) → ℕ
-noisePlace input = length input - 1024
+abbrev pub noise_place : (input : List ℕ) → ℕ
+noise_place input = length input - 1024
 
-abbrev pub sPart : (input : List ℕ) → List ℕ
-sPart input = part (noisePlace input) noiseLength input
+abbrev pub s_part : (input : List ℕ) → List ℕ
+s_part input = part (noise_place input) noise_length input
 
-abbrev pub ePart : (input : List ℕ) → List ℕ
-ePart input = part (noisePlace input + noiseLength) noiseLength input
+abbrev pub e_part : (input : List ℕ) → List ℕ
+e_part input = part (noise_place input + noise_length) noise_length input
 
 -- ---- the keys
 
 -- 1 for an input of any other length
-unfoldable pub makeKeyAnswer : (input : List ℕ) → Answer
-makeKeyAnswer input =
-    cond (seeded? input) (seededKeygenAnswer (seedPart input) (sPart input) (ePart input) seededKeyLength secretKeyLength)
-    (unless (eqb (length input) inputLength) WrongLength (keygenAnswer (streamPart input) (sPart input) (ePart input) publicKeyLength secretKeyLength))
+unfoldable pub make_key_answer : (input : List ℕ) → Answer
+make_key_answer input =
+    cond (is_seeded_key input) (seeded_keygen_answer (seed_part input) (s_part input) (e_part input) seeded_key_length secret_key_length)
+    (unless (eqb (length input) input_length) WrongLength (keygen_answer (stream_part input) (s_part input) (e_part input) public_key_length secret_key_length))
 
 -- of either kind
-unfoldable pub publicKey : (input : List ℕ) → List ℕ
-publicKey input = cond (seeded? input) (newSeededKey (seedPart input) (sPart input) (ePart input)) (newPublicKey (streamPart input) (sPart input) (ePart input))
+unfoldable pub public_key : (input : List ℕ) → List ℕ
+public_key input = cond (is_seeded_key input) (new_seeded_key (seed_part input) (s_part input) (e_part input)) (new_public_key (stream_part input) (s_part input) (e_part input))
 
-unfoldable pub secretKey : (input : List ℕ) → List ℕ
-secretKey input = newSecretKey (cond (seeded? input) (seedStream (seedPart input)) (streamPart input)) (sPart input) (ePart input)
+unfoldable pub secret_key : (input : List ℕ) → List ℕ
+secret_key input = new_secret_key (cond (is_seeded_key input) (seed_stream (seed_part input)) (stream_part input)) (s_part input) (e_part input)
 
 -- ---- what is printed
 
 -- nothing on a refusal
-unfoldable pub standardOutput : (input : List ℕ) → List ℕ
-standardOutput input = onDone (makeKeyAnswer input) (publicKey input ++ secretKey input) []
+unfoldable pub standard_output : (input : List ℕ) → List ℕ
+standard_output input = on_done (make_key_answer input) (public_key input ++ secret_key input) []
 
 -- nothing under Done
-unfoldable pub standardError : (input : List ℕ) → List ℕ
-standardError input = refusalLine (makeKeyAnswer input)
+unfoldable pub standard_error : (input : List ℕ) → List ℕ
+standard_error input = refusal_line (make_key_answer input)

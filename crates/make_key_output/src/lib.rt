@@ -2,9 +2,9 @@
 ghost use Rattle.std.specs.Prelude.{◌≡◌, [], ◌++◌, ◌+◌, ◌≤◌, length, take};
 ghost use Rattle.lists.specs.Table.{zeros};
 ghost use Rattle.text.specs.Text.{written};
-ghost use Rattle.answers.specs.Answers.{onDone};
-ghost use Rattle.records.specs.Layout.{publicKeyLength, secretKeyLength};
-ghost use Rattle.make_key_output.specs.MakeKey.{inputLength, seededInputLength, makeKeyAnswer, publicKey, secretKey, standardOutput, standardError};
+ghost use Rattle.answers.specs.Answers.{on_done};
+ghost use Rattle.records.specs.Layout.{public_key_length, secret_key_length};
+ghost use Rattle.make_key_output.specs.MakeKey.{input_length, seeded_input_length, make_key_answer, public_key, secret_key, standard_output, standard_error};
 
 use answers::{Answer, Refusal};
 use records::{PUBLIC_KEY_LENGTH, SECRET_KEY_LENGTH, SEED_LENGTH, SEEDED_KEY_LENGTH};
@@ -26,11 +26,11 @@ const SEEDED_INPUT_LENGTH: usize = SEEDED_E_NOISE + NOISE_LENGTH;
 
 // The keys of a stream.
 fn long_keys(input: &[u8], public: &mut [u8], secret: &mut [u8]) -> Answer
-    requires input_len { length input.now ≡ inputLength }
-    requires public_len { (length public.old ≡ publicKeyLength) × (length secret.old ≡ secretKeyLength) }
-    ensures value { result ≡ makeKeyAnswer input.now }
-    ensures public_after { public.new ≡ onDone result (written (publicKey input.now) public.old) public.old }
-    ensures secret_after { secret.new ≡ onDone result (secretKey input.now) secret.old }
+    requires input_len { length input.now ≡ input_length }
+    requires public_len { (length public.old ≡ public_key_length) × (length secret.old ≡ secret_key_length) }
+    ensures value { result ≡ make_key_answer input.now }
+    ensures public_after { public.new ≡ on_done result (written (public_key input.now) public.old) public.old }
+    ensures secret_after { secret.new ≡ on_done result (secret_key input.now) secret.old }
 {
     key_calls::keygen(
         &input[0..S_NOISE],
@@ -43,11 +43,11 @@ fn long_keys(input: &[u8], public: &mut [u8], secret: &mut [u8]) -> Answer
 
 // The keys of a seed.
 fn seeded_keys(input: &[u8], public: &mut [u8], secret: &mut [u8]) -> Answer
-    requires input_len { length input.now ≡ seededInputLength }
-    requires public_len { (length public.old ≡ publicKeyLength) × (length secret.old ≡ secretKeyLength) }
-    ensures value { result ≡ makeKeyAnswer input.now }
-    ensures public_after { public.new ≡ onDone result (written (publicKey input.now) public.old) public.old }
-    ensures secret_after { secret.new ≡ onDone result (secretKey input.now) secret.old }
+    requires input_len { length input.now ≡ seeded_input_length }
+    requires public_len { (length public.old ≡ public_key_length) × (length secret.old ≡ secret_key_length) }
+    ensures value { result ≡ make_key_answer input.now }
+    ensures public_after { public.new ≡ on_done result (written (public_key input.now) public.old) public.old }
+    ensures secret_after { secret.new ≡ on_done result (secret_key input.now) secret.old }
 {
     seeded_keygen::keygen_from_seed(
         &input[0..SEEDED_S_NOISE],
@@ -60,10 +60,10 @@ fn seeded_keys(input: &[u8], public: &mut [u8], secret: &mut [u8]) -> Answer
 
 // The keys of an input of any length.
 fn keys_of(input: &[u8], public: &mut [u8], secret: &mut [u8]) -> Answer
-    requires { (length public.old ≡ publicKeyLength) × (length secret.old ≡ secretKeyLength) }
-    ensures value { result ≡ makeKeyAnswer input.now }
-    ensures public_after { public.new ≡ onDone result (written (publicKey input.now) public.old) public.old }
-    ensures secret_after { secret.new ≡ onDone result (secretKey input.now) secret.old }
+    requires { (length public.old ≡ public_key_length) × (length secret.old ≡ secret_key_length) }
+    ensures value { result ≡ make_key_answer input.now }
+    ensures public_after { public.new ≡ on_done result (written (public_key input.now) public.old) public.old }
+    ensures secret_after { secret.new ≡ on_done result (secret_key input.now) secret.old }
 {
     if input.len() == SEEDED_INPUT_LENGTH {
         return seeded_keys(input, public, secret);
@@ -76,7 +76,7 @@ fn keys_of(input: &[u8], public: &mut [u8], secret: &mut [u8]) -> Answer
 
 // How long the public key is.
 fn public_length(input: &[u8]) -> usize
-    ensures { result ≡ length (publicKey input.now) }
+    ensures { result ≡ length (public_key input.now) }
 {
     if input.len() == SEEDED_INPUT_LENGTH {
         return SEEDED_KEY_LENGTH;
@@ -94,14 +94,14 @@ pub struct Printed {
 
 // What the program does with its input.
 pub fn make_key(input: &[u8], public: &mut [u8], secret: &mut [u8]) -> Printed
-    requires { (length public.old ≡ publicKeyLength) × (length secret.old ≡ secretKeyLength) }
-    ensures public_after { public.new ≡ onDone (makeKeyAnswer input.now) (written (publicKey input.now) public.old) public.old }
-    ensures secret_after { secret.new ≡ onDone (makeKeyAnswer input.now) (secretKey input.now) secret.old }
-    ensures public_value { (result.public ≡ length (onDone (makeKeyAnswer input.now) (publicKey input.now) [])) × (result.public ≤ publicKeyLength) }
-    ensures secret_value { (result.secret ≡ length (onDone (makeKeyAnswer input.now) (secretKey input.now) [])) × (result.secret ≤ secretKeyLength) }
-    ensures secret_after_2 { take result.public public.new ++ take result.secret secret.new ≡ standardOutput input.now }
-    ensures bytes_value { result.error.bytes ≡ written (standardError input.now) (zeros 21) }
-    ensures length_value { (result.error.length ≡ length (standardError input.now)) × (result.error.length ≤ 21) }
+    requires { (length public.old ≡ public_key_length) × (length secret.old ≡ secret_key_length) }
+    ensures public_after { public.new ≡ on_done (make_key_answer input.now) (written (public_key input.now) public.old) public.old }
+    ensures secret_after { secret.new ≡ on_done (make_key_answer input.now) (secret_key input.now) secret.old }
+    ensures public_value { (result.public ≡ length (on_done (make_key_answer input.now) (public_key input.now) [])) × (result.public ≤ public_key_length) }
+    ensures secret_value { (result.secret ≡ length (on_done (make_key_answer input.now) (secret_key input.now) [])) × (result.secret ≤ secret_key_length) }
+    ensures secret_after_2 { take result.public public.new ++ take result.secret secret.new ≡ standard_output input.now }
+    ensures bytes_value { result.error.bytes ≡ written (standard_error input.now) (zeros 21) }
+    ensures length_value { (result.error.length ≡ length (standard_error input.now)) × (result.error.length ≤ 21) }
 {
     let answer = keys_of(input, public, secret);
     let error = refusal_line::line(answer);

@@ -5,17 +5,17 @@ use Prim.Native.Nat.{ℕ}
 use lib.ListN.{length}
 use Rattle.answers.specs.Answers.{number}
 use Rattle.answers.specs.Locations.{code}
-use Rattle.calls.specs.Calls.{openAnswer, openOut}
-use Rattle.margin_calls.specs.Calls.{openMarginOut}
+use Rattle.calls.specs.Calls.{open_answer, open_out}
+use Rattle.margin_calls.specs.Calls.{open_margin_out}
 use Rattle.margin_calls.specs.Promises.{OpenMarginExact}
 use Rattle.margin_calls.proofs.MarginExact.{margin-exact, margin-exact-code}
 
-pub margin-promise : (k sealed noise before : List ℕ) (lent : ℕ) {said : ℕ} {after : List ℕ} {value : ℕ}
-    → said ≡ number (openAnswer k sealed noise (length before)) → after ≡ openOut k sealed noise before
-    → value ≡ openMarginOut k sealed noise (length before) lent → OpenMarginExact k sealed noise before lent said after value
-margin-promise k sealed noise before lent es ea ev = rw (es, ea, ev) (margin-exact k sealed noise before lent)
+pub margin_promise : (k sealed noise before : List ℕ) (lent : ℕ) {said : ℕ} {after : List ℕ} {value : ℕ}
+    → said ≡ number (open_answer k sealed noise (length before)) → after ≡ open_out k sealed noise before
+    → value ≡ open_margin_out k sealed noise (length before) lent → OpenMarginExact k sealed noise before lent said after value
+margin_promise k sealed noise before lent es ea ev = rw (es, ea, ev) (margin-exact k sealed noise before lent)
 
 pub margin-export : (k sealed noise before : List ℕ) (lent : ℕ) {said : ℕ} {after : List ℕ} {value : ℕ}
-    → said ≡ code (openAnswer k sealed noise (length before)) → after ≡ openOut k sealed noise before
-    → value ≡ openMarginOut k sealed noise (length before) lent → OpenMarginExact k sealed noise before lent said after value
+    → said ≡ code (open_answer k sealed noise (length before)) → after ≡ open_out k sealed noise before
+    → value ≡ open_margin_out k sealed noise (length before) lent → OpenMarginExact k sealed noise before lent said after value
 margin-export k sealed noise before lent es ea ev = rw (es, ea, ev) (margin-exact-code k sealed noise before lent)

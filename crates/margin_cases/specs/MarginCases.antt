@@ -2,26 +2,26 @@
 -- output, number, location, margin, and entry.
 use Rattle.std.specs.Prelude.{Bool, ◌&&◌, cond, List, ℕ, eqb, length}
 use Rattle.answers.specs.declared.Answer.{Answer}
-use Rattle.calls.specs.Calls.{openAnswer, openOut}
-use Rattle.margin_calls.specs.Calls.{openMarginOut}
+use Rattle.calls.specs.Calls.{open_answer, open_out}
+use Rattle.margin_calls.specs.Calls.{open_margin_out}
 use Rattle.vectors.specs.Fields.{word32, field}
-use Rattle.case_outputs.specs.Outputs.{answerAgrees?}
+use Rattle.case_outputs.specs.Outputs.{answer_agrees}
 
 -- under 0 the margin is the one that is told; under any other number none is told, and it is 0
-unfoldable pub marginAgrees? : (text : List ℕ) (margin : ℕ) → Bool
-marginAgrees? text margin =
+unfoldable pub margin_agrees : (text : List ℕ) (margin : ℕ) → Bool
+margin_agrees text margin =
     cond (eqb (word32 (field 4 text)) 0) (eqb margin (word32 (field 6 text))) (eqb (length (field 6 text)) 0 && eqb margin 0)
 
 -- answer, margin and output are what is told
-unfoldable pub openedAgrees? : (text : List ℕ) (answer : Answer) (margin : ℕ) (after : List ℕ) → Bool
-openedAgrees? text answer margin after =
-    answerAgrees? answer (word32 (field 4 text)) (field 5 text) (field 7 text) after && marginAgrees? text margin
+unfoldable pub opened_agrees : (text : List ℕ) (answer : Answer) (margin : ℕ) (after : List ℕ) → Bool
+opened_agrees text answer margin after =
+    answer_agrees answer (word32 (field 4 text)) (field 5 text) (field 7 text) after && margin_agrees text margin
 
 -- the output after the call, where it holds `out` before it
-unfoldable pub openMarginAfter : (text out : List ℕ) → List ℕ
-openMarginAfter text out = openOut (field 0 text) (field 1 text) (field 2 text) out
+unfoldable pub open_margin_after : (text out : List ℕ) → List ℕ
+open_margin_after text out = open_out (field 0 text) (field 1 text) (field 2 text) out
 
-unfoldable pub openMarginAgrees? : (text out : List ℕ) → Bool
-openMarginAgrees? text out =
-    openedAgrees? text (openAnswer (field 0 text) (field 1 text) (field 2 text) (length out))
-    (openMarginOut (field 0 text) (field 1 text) (field 2 text) (length out) 0) (openMarginAfter text out)
+unfoldable pub open_margin_agrees : (text out : List ℕ) → Bool
+open_margin_agrees text out =
+    opened_agrees text (open_answer (field 0 text) (field 1 text) (field 2 text) (length out))
+    (open_margin_out (field 0 text) (field 1 text) (field 2 text) (length out) 0) (open_margin_after text out)

@@ -1,14 +1,14 @@
 // When a case of opening with margin agrees.
 ghost use Rattle.std.specs.Prelude.{◌≡◌};
 ghost use Rattle.case_outputs.specs.Outputs.{filled, output};
-ghost use Rattle.margin_cases.specs.MarginCases.{marginAgrees?, openedAgrees?, openMarginAfter, openMarginAgrees?};
+ghost use Rattle.margin_cases.specs.MarginCases.{margin_agrees, opened_agrees, open_margin_after, open_margin_agrees};
 
 use case_outputs::FILLER;
 use margin_opening::OpenedWithMargin;
 
 // Whether the margin is the one that is told, as under 0, or none is told and there is none, as under any other number.
 fn margin_agrees(text: &[u8], margin: u32) -> bool
-    ensures { result ≡ marginAgrees? text.now margin }
+    ensures { result ≡ margin_agrees text.now margin }
 {
     if vectors::number(text, 4) == 0 {
         return margin == vectors::number(text, 6);
@@ -17,7 +17,7 @@ fn margin_agrees(text: &[u8], margin: u32) -> bool
 }
 
 fn opened_agrees(text: &[u8], opened: OpenedWithMargin, after: &[u8]) -> bool
-    ensures { result ≡ openedAgrees? text.now opened.answer opened.margin after.now }
+    ensures { result ≡ opened_agrees text.now opened.answer opened.margin after.now }
 {
     let answer = opened.answer;
     let margin = opened.margin;
@@ -28,8 +28,8 @@ fn opened_agrees(text: &[u8], opened: OpenedWithMargin, after: &[u8]) -> bool
 }
 
 fn open_margin_agrees(text: &[u8], out: &mut [u8]) -> bool
-    ensures value { result ≡ openMarginAgrees? text.now (filled out.old) }
-    ensures out_after { out.new ≡ openMarginAfter text.now (filled out.old) }
+    ensures value { result ≡ open_margin_agrees text.now (filled out.old) }
+    ensures out_after { out.new ≡ open_margin_after text.now (filled out.old) }
 {
     vectors::fill(out, FILLER);
     let opened = margin_opening::open_with_margin(
@@ -42,7 +42,7 @@ fn open_margin_agrees(text: &[u8], out: &mut [u8]) -> bool
 }
 
 pub fn open_margin_case_agrees(text: &[u8]) -> bool
-    ensures { result ≡ openMarginAgrees? text.now (output 3 text.now) }
+    ensures { result ≡ open_margin_agrees text.now (output 3 text.now) }
 {
     let mut out = case_outputs::output_buffer();
     let size = case_outputs::room(text, 3);

@@ -2,8 +2,8 @@
 // length; under any answer but Done the output is as it came.
 ghost use Rattle.std.specs.Prelude.{◌≡◌, length};
 ghost use Rattle.answers.specs.Answers.{number};
-ghost use Rattle.calls.specs.Calls.{openAnswer, openOut};
-ghost use Rattle.margin_calls.specs.Calls.{openMarginOut};
+ghost use Rattle.calls.specs.Calls.{open_answer, open_out};
+ghost use Rattle.margin_calls.specs.Calls.{open_margin_out};
 ghost use Rattle.margin_calls.specs.Promises.{OpenMarginExact};
 
 use answers::Answer;
@@ -18,9 +18,9 @@ pub struct OpenedWithMargin {
 // entry as `open` gives it, and margin = max |w_k| where m = E2 + 5 × w. The margin hangs on the dummy and belongs to the desk's secret side: it
 // tells of the secret key and of the triple. SEALED_ENTRY_LENGTH bytes give BLOCK_LENGTH.
 pub fn open_with_margin(key: &[u8], sealed: &[u8], noise: &[u8], out: &mut [u8]) -> OpenedWithMargin
-    ensures answer_value { result.answer ≡ openAnswer key.now sealed.now noise.now (length out.old) }
-    ensures out_after { out.new ≡ openOut key.now sealed.now noise.now out.old }
-    ensures margin_value { result.margin ≡ openMarginOut key.now sealed.now noise.now (length out.old) 0 }
+    ensures answer_value { result.answer ≡ open_answer key.now sealed.now noise.now (length out.old) }
+    ensures out_after { out.new ≡ open_out key.now sealed.now noise.now out.old }
+    ensures margin_value { result.margin ≡ open_margin_out key.now sealed.now noise.now (length out.old) 0 }
     ensures open_margin_exact { OpenMarginExact key.now sealed.now noise.now out.old 0 (number result.answer) out.new result.margin }
 {
     let opened = opening::open_entry(key, sealed, noise, out);

@@ -31,20 +31,20 @@ module _ (w : ℤ) (f : SFits w16 w) where
   abbrev z : ℤ
   z = to_z w32 (of_z w32 (to_z w16 (of_z w16 w)))
 
-  z-is : z ≡ w
-  z-is = widened w16 w32 w tt f.sfits
+  z_is : z ≡ w
+  z_is = widened w16 w32 w tt f.sfits
 
   negated : lt_z z (pos 0) ≡ true → pos 0 -ℤ z ≡ pos (nat_abs w)
-  negated h = ap (λ (x : ℤ). pos 0 -ℤ x) z-is ∙ opposite w (ap (λ (x : ℤ). lt_z x (pos 0)) (sym z-is) ∙ h)
+  negated h = ap (λ (x : ℤ). pos 0 -ℤ x) z_is ∙ opposite w (ap (λ (x : ℤ). lt_z x (pos 0)) (sym z_is) ∙ h)
 
   pub negated_fits : lt_z z (pos 0) ≡ true → SFits w32 (pos 0 -ℤ z)
   negated_fits h = rw (negated h) (record { sfits = omega (arith, most w f) })
 
-  pub negated-is : lt_z z (pos 0) ≡ true → to_z w32 (of_z w32 (pos 0 -ℤ z)) ≡ pos (nat_abs w)
-  negated-is h = to_z-of_z w32 _ (negated_fits h) ∙ negated h
+  pub negated_is : lt_z z (pos 0) ≡ true → to_z w32 (of_z w32 (pos 0 -ℤ z)) ≡ pos (nat_abs w)
+  negated_is h = to_z-of_z w32 _ (negated_fits h) ∙ negated h
 
-  pub kept-is : lt_z z (pos 0) ≡ false → z ≡ pos (nat_abs w)
-  kept-is h = z-is ∙ same w (ap (λ (x : ℤ). lt_z x (pos 0)) (sym z-is) ∙ h)
+  pub kept_is : lt_z z (pos 0) ≡ false → z ≡ pos (nat_abs w)
+  kept_is h = z_is ∙ same w (ap (λ (x : ℤ). lt_z x (pos 0)) (sym z_is) ∙ h)
 
   -- a number that is the size is a u16
   pub size_word : (y : ℤ) → y ≡ pos (nat_abs w) → T (non_neg y) × Fits w16 (nat_abs y)

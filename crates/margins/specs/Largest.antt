@@ -2,6 +2,6 @@
 use Rattle.std.specs.Prelude.{List, [], ◌∷◌, ℕ, max, ℤ, nat_abs}
 
 -- 0 of none
-unfoldable pub largestSize : List ℤ → ℕ
-largestSize [] = 0
-largestSize (x ∷ xs) = max (nat_abs x) (largestSize xs)
+unfoldable pub largest_size : List ℤ → ℕ
+largest_size [] = 0
+largest_size (x ∷ xs) = max (nat_abs x) (largest_size xs)

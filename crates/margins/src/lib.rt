@@ -1,6 +1,6 @@
 // The margin of a link (document 02, No. 7): how large the quotients w of m = E2 + 5 × w are.
 ghost use Rattle.std.specs.Prelude.{◌≡◌, nat_abs};
-ghost use Rattle.margins.specs.Largest.{largestSize};
+ghost use Rattle.margins.specs.Largest.{largest_size};
 
 use ntt::DEGREE;
 use ring::Quotients;
@@ -15,7 +15,7 @@ fn size(w: i16) -> u16
 
 // The largest size of all.
 pub fn largest_size(w: Quotients) -> u16
-    ensures { result ≡ largestSize w }
+    ensures { result ≡ largest_size w }
 {
     let mut largest = 0u16;
     for k in 0..DEGREE {

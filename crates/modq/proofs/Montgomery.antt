@@ -4,14 +4,14 @@ use mathlib.Core.Path.{◌≡◌, sym, ap, ◌∙◌}
 use Prim.Native.Nat.{ℕ, ◌+◌, ◌*◌, ◌/◌, ◌%◌, ◌<◌, ◌≤◌}
 use native.Mathlib.Nat.{mul_comm, mul_assoc, mod-add-mod, mod-lt, mod-eq_of_lt, mul-le-mul}
 use native.Mathlib.Omega.{arith}
-use Rattle.algebra.specs.Numbers.{addMod, subMod, mulMod}
+use Rattle.algebra.specs.Numbers.{add_mod, sub_mod, mul_mod}
 use Rattle.algebra.proofs.Residues.{mod-mul-left}
 use Rattle.modq.specs.Modulus.{q}
-use Rattle.modq.specs.Montgomery.{montgomeryForm, fromMontgomery, montgomeryProduct}
+use Rattle.modq.specs.Montgomery.{montgomery_form, from_montgomery, montgomery_product}
 
 -- a difference is known by its sum
-subMod-is : (a b c : ℕ) → addMod q c b ≡ a % q → c % q ≡ subMod q a b
-subMod-is a b c e = omega arith
+sub_mod_is : (a b c : ℕ) → add_mod q c b ≡ a % q → c % q ≡ sub_mod q a b
+sub_mod_is a b c e = omega arith
 
 -- ---- the product
 
@@ -21,11 +21,11 @@ top p = p / 65536
 abbrev pub over : ℕ → ℕ
 over p = ((p % 65536) * 6145) % 65536 * 59393 / 65536
 
-pub over-less : (p : ℕ) → over p < q
-over-less p = omega arith
+pub over_less : (p : ℕ) → over p < q
+over_less p = omega arith
 
-pub top-less : (w y : ℕ) → w < q → y < 65536 → top (w * y) < q
-top-less w y h g =
+pub top_less : (w y : ℕ) → w < q → y < 65536 → top (w * y) < q
+top_less w y h g =
     let l : w * y ≤ 59392 * 65535 = mul-le-mul {n₁ = w} {m₁ = y} {n₂ = 59392} {m₂ = 65535} (omega arith) (omega arith) in
     omega arith
 
@@ -45,37 +45,37 @@ difference p =
     same : (a k b c : ℕ) → a + 59393 * k ≡ b + 59393 * c → a % 59393 ≡ b % 59393
     same a k b c e = omega arith
 
-product_is : (w y : ℕ) → montgomeryProduct w y ≡ (w * y * 53824) % q
+product_is : (w y : ℕ) → montgomery_product w y ≡ (w * y * 53824) % q
 product_is w y =
     mod-mul-left (w * 53824) y q
     ∙ ap (λ (n : ℕ). n % q) (mul_assoc w 53824 y ∙ ap (λ (n : ℕ). w * n) (mul_comm 53824 y) ∙ sym (mul_assoc w y 53824))
 
 module _ (w y : ℕ) (h : w < q) (g : y < 65536) where
-  balance : addMod q (montgomeryProduct w y) (over (w * y)) ≡ top (w * y) % q
+  balance : add_mod q (montgomery_product w y) (over (w * y)) ≡ top (w * y) % q
   balance =
       ap (λ (n : ℕ). (n + over (w * y)) % q) (product_is w y) ∙ mod-add-mod (w * y * 53824) q (over (w * y)) ∙ difference (w * y)
 
-  product-less : montgomeryProduct w y < q
-  product-less = mod-lt (fromMontgomery w * y) (omega arith)
+  product_less : montgomery_product w y < q
+  product_less = mod-lt (from_montgomery w * y) (omega arith)
 
-  pub plain : subMod q (top (w * y)) (over (w * y)) ≡ montgomeryProduct w y
-  plain = sym (subMod-is (top (w * y)) (over (w * y)) (montgomeryProduct w y) balance) ∙ mod-eq_of_lt product-less
+  pub plain : sub_mod q (top (w * y)) (over (w * y)) ≡ montgomery_product w y
+  plain = sym (sub_mod_is (top (w * y)) (over (w * y)) (montgomery_product w y) balance) ∙ mod-eq_of_lt product_less
 
 -- ---- constants in Montgomery's form
 
-pub to-form : (x : ℕ) → montgomeryProduct 21894 x ≡ montgomeryForm x
-to-form x = omega arith
+pub to_form : (x : ℕ) → montgomery_product 21894 x ≡ montgomery_form x
+to_form x = omega arith
 
 -- a number below q comes back from its form
-pub from-form : (x : ℕ) → x < q → fromMontgomery (montgomeryForm x) ≡ x
-from-form x h = mod-mul-left (x * 65536) 53824 q ∙ back x h
+pub from_form : (x : ℕ) → x < q → from_montgomery (montgomery_form x) ≡ x
+from_form x h = mod-mul-left (x * 65536) 53824 q ∙ back x h
   where
     back : (x : ℕ) → x < q → (x * 65536 * 53824) % q ≡ x
     back x h = omega arith
 
-pub product-of-form : (x y : ℕ) → montgomeryProduct (montgomeryForm x) y ≡ mulMod q x y
-product-of-form x y =
-    ap (λ (n : ℕ). mulMod q n y) (mod-mul-left (x * 65536) 53824 q ∙ back x) ∙ mod-mul-left x y q
+pub product_of_form : (x y : ℕ) → montgomery_product (montgomery_form x) y ≡ mul_mod q x y
+product_of_form x y =
+    ap (λ (n : ℕ). mul_mod q n y) (mod-mul-left (x * 65536) 53824 q ∙ back x) ∙ mod-mul-left x y q
   where
     back : (x : ℕ) → (x * 65536 * 53824) % q ≡ x % q
     back x = omega arith

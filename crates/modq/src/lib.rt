@@ -1,8 +1,8 @@
 // Arithmetic modulo q = 59,393. Every u16 is taken, as its residue, but where a name or a contract says reduced; every result is below q.
 ghost use Rattle.std.specs.Prelude.{◌≡◌, ◌*◌, ◌/◌, ◌%◌, ◌<◌, ◌≤◌};
-ghost use Rattle.algebra.specs.Numbers.{addMod, subMod, mulMod};
+ghost use Rattle.algebra.specs.Numbers.{add_mod, sub_mod, mul_mod};
 ghost use Rattle.modq.specs.Modulus.{q, reciprocal_of};
-ghost use Rattle.modq.specs.Montgomery.{montgomeryForm, montgomeryProduct};
+ghost use Rattle.modq.specs.Montgomery.{montgomery_form, montgomery_product};
 
 // q, and q at another width.
 pub const Q: u16 = 59393;
@@ -20,7 +20,7 @@ pub fn reduce(x: u16) -> u16
 // compiler works on eight words at a time.
 pub fn sub_reduced(a: u16, b: u16) -> u16
     requires { (a < q) × (b ≤ q) }
-    ensures { result ≡ subMod q a b }
+    ensures { result ≡ sub_mod q a b }
 {
     let borrowed = if a < b { Q_U32 } else { 0u32 };
     (a as u32 + borrowed - b as u32) as u16
@@ -28,25 +28,25 @@ pub fn sub_reduced(a: u16, b: u16) -> u16
 
 pub fn add_reduced(a: u16, b: u16) -> u16
     requires { (a < q) × (b < q) }
-    ensures { result ≡ addMod q a b }
+    ensures { result ≡ add_mod q a b }
 {
     sub_reduced(a, Q - b)
 }
 
 pub fn add(a: u16, b: u16) -> u16
-    ensures { result ≡ addMod q a b }
+    ensures { result ≡ add_mod q a b }
 {
     add_reduced(reduce(a), reduce(b))
 }
 
 pub fn sub(a: u16, b: u16) -> u16
-    ensures { result ≡ subMod q a b }
+    ensures { result ≡ sub_mod q a b }
 {
     sub_reduced(reduce(a), reduce(b))
 }
 
 pub fn mul(a: u16, b: u16) -> u16
-    ensures { result ≡ mulMod q a b }
+    ensures { result ≡ mul_mod q a b }
 {
     (a as u32 * b as u32 % Q_U32) as u16
 }
@@ -75,14 +75,14 @@ fn reduction(w: u16, y: u16) -> u16
 
 pub fn montgomery_product(w: u16, y: u16) -> u16
     requires { w < q }
-    ensures { result ≡ montgomeryProduct w y }
+    ensures { result ≡ montgomery_product w y }
 {
     sub_reduced(high(w, y), reduction(w, y))
 }
 
 // 21894 is 2^32 modulo q, Montgomery's form of 2^16.
 pub fn montgomery_form(x: u16) -> u16
-    ensures { result ≡ montgomeryForm x }
+    ensures { result ≡ montgomery_form x }
 {
     montgomery_product(21894, x)
 }

@@ -1,7 +1,7 @@
 // The functions that NIST's response files test, and the chain of their Monte files.
 ghost use Rattle.std.specs.Prelude.{◌≡◌, ◌+◌, ◌*◌, ◌≤◌, length};
-ghost use Rattle.monte_chain.specs.Monte.{outputOf, leastSize, greatestSize, outputSize};
-ghost use Rattle.monte_chain.specs.Monte.{messageOf, chainOf, turned, turns as Monte·turns};
+ghost use Rattle.monte_chain.specs.Monte.{output_of, least_size, greatest_size, output_size};
+ghost use Rattle.monte_chain.specs.Monte.{message_of, chain_of, turned, turns as Monte·turns};
 
 #[derive(Drop)]
 pub enum Function {
@@ -11,7 +11,7 @@ pub enum Function {
 
 // Fills the output from a message.
 pub fn put_output(function: Function, message: &[u8], output: &mut [u8])
-    ensures { output.new ≡ outputOf function message.now (length output.old) }
+    ensures { output.new ≡ output_of function message.now (length output.old) }
 {
     match function {
         Function::Shake128 => shake::shake128(message, output),
@@ -21,7 +21,7 @@ pub fn put_output(function: Function, message: &[u8], output: &mut [u8])
 
 // The least number of bytes that a turn of the chain puts out.
 pub fn least_size(function: Function) -> usize
-    ensures { result ≡ leastSize function }
+    ensures { result ≡ least_size function }
 {
     match function {
         Function::Shake128 => 16,
@@ -31,7 +31,7 @@ pub fn least_size(function: Function) -> usize
 
 // The greatest number of bytes that a turn of the chain puts out.
 pub fn greatest_size(function: Function) -> usize
-    ensures { result ≡ greatestSize function }
+    ensures { result ≡ greatest_size function }
 {
     match function {
         Function::Shake128 => 140,
@@ -47,7 +47,7 @@ pub struct Chain {
 }
 
 pub fn output_size(function: Function, extra: usize) -> usize
-    ensures { result ≡ outputSize function extra }
+    ensures { result ≡ output_size function extra }
 {
     let least = least_size(function);
     let sizes = greatest_size(function) - least + 1;
@@ -63,7 +63,7 @@ fn join(high: u8, low: u8) -> usize
 
 // The first 16 bytes of an output, filled with zeros.
 fn next_message(output: &[u8]) -> [u8; 16]
-    ensures { result ≡ messageOf output.now }
+    ensures { result ≡ message_of output.now }
 {
     let mut message = [0u8; 16];
     let mut i = 0;
@@ -77,7 +77,7 @@ fn next_message(output: &[u8]) -> [u8; 16]
 // What the turn after an output starts from.
 fn chain_of(output: &[u8]) -> Chain
     requires { 2 ≤ length output.now }
-    ensures { result ≡ chainOf output.now }
+    ensures { result ≡ chain_of output.now }
 {
     let n = output.len();
     let message = next_message(output);

@@ -1,9 +1,9 @@
 // The cases of NIST's byte-oriented response files: the verdict on the case that a text starts with.
 ghost use Rattle.std.specs.Prelude.{◌≡◌, ◌≤◌, length};
 ghost use Rattle.response_files.specs.Lines.{same};
-ghost use Rattle.monte_chain.specs.Monte.{outputOf};
-ghost use Rattle.nist_cases.specs.Cases.{most, agrees, judged, isMessage, messageIn, judgedMessage};
-ghost use Rattle.nist_cases.specs.Cases.{differing, judgedTurn, judgedOutput, judgedCounted, judgedLength, judgedCase};
+ghost use Rattle.monte_chain.specs.Monte.{output_of};
+ghost use Rattle.nist_cases.specs.Cases.{most, agrees, judged, is_message, message_in, judged_message};
+ghost use Rattle.nist_cases.specs.Cases.{differing, judged_turn, judged_output, judged_counted, judged_length, judged_case};
 
 use monte_chain::{Chain, Function};
 use response_files::Number;
@@ -20,8 +20,8 @@ pub enum Verdict {
 
 // Whether the message gives what is expected. The output is put into a buffer, which says how long it is.
 fn agrees_in(function: Function, message: &[u8], expected: &[u8], output: &mut [u8]) -> bool
-    ensures value { result ≡ same (outputOf function message.now (length output.old)) expected.now }
-    ensures output_after { output.new ≡ outputOf function message.now (length output.old) }
+    ensures value { result ≡ same (output_of function message.now (length output.old)) expected.now }
+    ensures output_after { output.new ≡ output_of function message.now (length output.old) }
 {
     monte_chain::put_output(function, message, output);
     response_files::same(output, expected)
@@ -54,8 +54,8 @@ fn judge(function: Function, text: &[u8], message: &[u8], size: usize) -> Verdic
 
 // Whether the digits tell a message of so many bytes, for which out has room; they are then put into out. The empty message is written 00.
 fn read_message(digits: &[u8], bytes: usize, out: &mut [u8]) -> bool
-    ensures value { result ≡ isMessage (length out.old) bytes digits.now }
-    ensures out_after { out.new ≡ messageIn bytes digits.now out.old }
+    ensures value { result ≡ is_message (length out.old) bytes digits.now }
+    ensures out_after { out.new ≡ message_in bytes digits.now out.old }
 {
     if bytes == 0 {
         return response_files::same(digits, b"00");
@@ -65,7 +65,7 @@ fn read_message(digits: &[u8], bytes: usize, out: &mut [u8]) -> bool
 
 // Judges the message on the line `Msg = `, which has so many bytes, by the line after it.
 fn judge_message(function: Function, text: &[u8], bytes: usize, size: usize) -> Verdict
-    ensures { result ≡ judgedMessage function bytes size text.now }
+    ensures { result ≡ judged_message function bytes size text.now }
 {
     let digits = response_files::value(text, b"Msg = ");
     let mut message = io::large_buffer();
@@ -102,7 +102,7 @@ fn differing(verdict: Verdict) -> Verdict
 
 // Judges the chain's last turn by the line `Output = `.
 fn judge_turn(function: Function, text: &[u8], c: Chain, size: usize) -> Verdict
-    ensures { result ≡ judgedTurn function c size text.now }
+    ensures { result ≡ judged_turn function c size text.now }
 {
     let message = c.message;
     let verdict = judge(function, text, &message, size);
@@ -121,7 +121,7 @@ fn judge_output(
     c: Chain,
     size: usize,
 ) -> Verdict
-    ensures { result ≡ judgedOutput function kind number c size text.now }
+    ensures { result ≡ judged_output function kind number c size text.now }
 {
     match kind {
         Kind::Length => judge_message(function, text, number, size),
@@ -139,7 +139,7 @@ fn judge_counted_case(
     count: usize,
     c: Chain,
 ) -> Verdict
-    ensures { result ≡ judgedCounted function kind number count c text.now }
+    ensures { result ≡ judged_counted function kind number count c text.now }
 {
     if !response_files::is_count(text, count) {
         return Verdict::Malformed(text.len());
@@ -160,7 +160,7 @@ fn judge_counted_case(
 
 // A case of the files of short and long messages: Len, Msg, Output.
 fn judge_length_case(function: Function, text: &[u8], size: usize) -> Verdict
-    ensures { result ≡ judgedLength function size text.now }
+    ensures { result ≡ judged_length function size text.now }
 {
     let Number::Value(bytes) = response_files::length_field(text, b"Len = ") else {
         return Verdict::Malformed(text.len());
@@ -178,7 +178,7 @@ pub fn judge_case(
     count: usize,
     c: Chain,
 ) -> Verdict
-    ensures { result ≡ judgedCase function kind number count c text.now }
+    ensures { result ≡ judged_case function kind number count c text.now }
 {
     match kind {
         Kind::Length => judge_length_case(function, text, number),

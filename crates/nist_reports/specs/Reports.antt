@@ -1,59 +1,59 @@
 -- What is reported of a response file: a verdict on each of its cases, and the count of them.
 use Rattle.std.specs.Prelude.{Bool, cond, ◌&&◌, List, [], ◌∷◌, ℕ, zero, suc, ◌+◌, ◌-◌, eqb, length}
 use Rattle.lists.specs.Table.{zeros}
-use Rattle.hex.specs.Hex.{decoded, written}
-use Rattle.response_files.specs.Lines.{afterLine, value_of, isBlank, lines, line_at}
-use Rattle.response_files.specs.Fields.{isHex}
-use Rattle.response_files.specs.Headers.{body, headerNumber}
+use Rattle.hexadecimal.specs.Hex.{decoded, written}
+use Rattle.response_files.specs.Lines.{after_line, value_of, is_blank, lines, line_at}
+use Rattle.response_files.specs.Fields.{is_hex}
+use Rattle.response_files.specs.Headers.{body, header_number}
 use Rattle.monte_chain.specs.declared.Function.{Function}
 use Rattle.monte_chain.specs.declared.Chain.{Chain}
 use Rattle.nist_cases.specs.declared.Kind.{Kind}
 use Rattle.nist_cases.specs.declared.Kind.TheVariants.{Length, Output, Monte}
 use Rattle.nist_cases.specs.declared.Verdict.{Verdict}
 use Rattle.nist_cases.specs.declared.Verdict.TheVariants.{Agreed, Differed, Malformed}
-use Rattle.monte_chain.specs.Monte.{leastSize, greatestSize, turns}
-use Rattle.nist_cases.specs.Cases.{messageName, judgedCase}
+use Rattle.monte_chain.specs.Monte.{least_size, greatest_size, turns}
+use Rattle.nist_cases.specs.Cases.{message_name, judged_case}
 use Rattle.vectors.specs.declared.Report.{Report}
 use Rattle.vectors.specs.declared.Report.TheVariants.{Counts, MalformedLine}
 
 -- ---- the cases
 
 -- how many lines of a case follow its first
-abbrev pub moreLines : Kind → ℕ
-moreLines Length = 2
-moreLines Output = 3
-moreLines Monte = 2
+abbrev pub more_lines : Kind → ℕ
+more_lines Length = 2
+more_lines Output = 3
+more_lines Monte = 2
 
 -- The cases among lines of which so many belong to a case that has begun: blank lines between cases are skipped, and any other line starts
 -- a case. Each line, and each case, is the text from its start on.
-unfoldable pub casesAmong : (kind : Kind) (more : ℕ) (lines : List (List ℕ)) → List (List ℕ)
-casesAmong kind more [] = []
-casesAmong kind zero (line ∷ rest) =
-    cond (isBlank line) (casesAmong kind zero rest) (line ∷ casesAmong kind (moreLines kind) rest)
-casesAmong kind (suc more) (line ∷ rest) = casesAmong kind more rest
+unfoldable pub cases_among : (kind : Kind) (more : ℕ) (lines : List (List ℕ)) → List (List ℕ)
+cases_among kind more [] = []
+cases_among kind zero (line ∷ rest) =
+    cond (is_blank line) (cases_among kind zero rest) (line ∷ cases_among kind (more_lines kind) rest)
+cases_among kind (suc more) (line ∷ rest) = cases_among kind more rest
 
 -- what stands behind so many lines
-unfoldable pub afterLines : (n : ℕ) (text : List ℕ) → List ℕ
-afterLines zero text = text
-afterLines (suc n) text = afterLines n (afterLine text)
+unfoldable pub after_lines : (n : ℕ) (text : List ℕ) → List ℕ
+after_lines zero text = text
+after_lines (suc n) text = after_lines n (after_line text)
 
 -- what stands behind the lines of a case
-abbrev pub afterCase : (kind : Kind) (text : List ℕ) → List ℕ
-afterCase kind text = afterLines (moreLines kind) (afterLine text)
+abbrev pub after_case : (kind : Kind) (text : List ℕ) → List ℕ
+after_case kind text = after_lines (more_lines kind) (after_line text)
 
 -- ---- the verdicts
 
 -- the chain of the next case, a thousand turns on; only a Monte file has one
-abbrev pub nextChain : (function : Function) (kind : Kind) (chain : Chain) → Chain
-nextChain function Length chain = chain
-nextChain function Output chain = chain
-nextChain function Monte chain = turns function 1000 chain
+abbrev pub next_chain : (function : Function) (kind : Kind) (chain : Chain) → Chain
+next_chain function Length chain = chain
+next_chain function Output chain = chain
+next_chain function Monte chain = turns function 1000 chain
 
 -- the verdicts on cases that are counted on from a number
 unfoldable pub verdicts : (function : Function) (kind : Kind) (number count : ℕ) (chain : Chain) (cases : List (List ℕ)) → List Verdict
 verdicts function kind number count chain [] = []
 verdicts function kind number count chain (case ∷ cases) =
-    judgedCase function kind number count chain case ∷ verdicts function kind number (count + 1) (nextChain function kind chain) cases
+    judged_case function kind number count chain case ∷ verdicts function kind number (count + 1) (next_chain function kind chain) cases
 
 -- The report that verdicts make, after so many that agreed and that differed. The first malformed case is the report; so is the end of a
 -- text without a case.
@@ -64,62 +64,62 @@ tally text agreed differed (Differed ∷ rest) = tally text agreed (differed + 1
 tally text agreed differed (Malformed left ∷ rest) = MalformedLine (line_at left text)
 
 -- the report on the cases of a body, by lines of the whole text
-unfoldable pub reportOn : (function : Function) (kind : Kind) (number : ℕ) (chain : Chain) (text body : List ℕ) → Report
-reportOn function kind number chain text body = tally text 0 0 (verdicts function kind number 0 chain (casesAmong kind 0 (lines body)))
+unfoldable pub report_on : (function : Function) (kind : Kind) (number : ℕ) (chain : Chain) (text body : List ℕ) → Report
+report_on function kind number chain text body = tally text 0 0 (verdicts function kind number 0 chain (cases_among kind 0 (lines body)))
 
 -- ---- the files
 
 -- for the files that have none
-abbrev pub noChain : Chain
-noChain = record { message = zeros 16; extra = 0 }
+abbrev pub no_chain : Chain
+no_chain = record { message = zeros 16; extra = 0 }
 
 -- a file whose header of this name gives the length of all outputs or of all messages
-unfoldable pub reportPlain : (function : Function) (kind : Kind) (name text : List ℕ) → Report
-reportPlain function kind name text =
-    cond (eqb (headerNumber name text) 0)
+unfoldable pub report_plain : (function : Function) (kind : Kind) (name text : List ℕ) → Report
+report_plain function kind name text =
+    cond (eqb (header_number name text) 0)
     (MalformedLine (line_at (length (body text)) text))
-    (reportOn function kind (headerNumber name text) noChain text (body text))
+    (report_on function kind (header_number name text) no_chain text (body text))
 
 -- `[Minimum Output Length (bits) = `
-abbrev pub minimumName : List ℕ
-minimumName =
+abbrev pub minimum_name : List ℕ
+minimum_name =
     91 ∷ 77 ∷ 105 ∷ 110 ∷ 105 ∷ 109 ∷ 117 ∷ 109 ∷ 32 ∷ 79 ∷ 117 ∷ 116 ∷ 112 ∷ 117 ∷ 116 ∷ 32 ∷
     76 ∷ 101 ∷ 110 ∷ 103 ∷ 116 ∷ 104 ∷ 32 ∷ 40 ∷ 98 ∷ 105 ∷ 116 ∷ 115 ∷ 41 ∷ 32 ∷ 61 ∷ 32 ∷ []
 
 -- `[Maximum Output Length (bits) = `
-abbrev pub maximumName : List ℕ
-maximumName =
+abbrev pub maximum_name : List ℕ
+maximum_name =
     91 ∷ 77 ∷ 97 ∷ 120 ∷ 105 ∷ 109 ∷ 117 ∷ 109 ∷ 32 ∷ 79 ∷ 117 ∷ 116 ∷ 112 ∷ 117 ∷ 116 ∷ 32 ∷
     76 ∷ 101 ∷ 110 ∷ 103 ∷ 116 ∷ 104 ∷ 32 ∷ 40 ∷ 98 ∷ 105 ∷ 116 ∷ 115 ∷ 41 ∷ 32 ∷ 61 ∷ 32 ∷ []
 
 -- the headers give the least and the greatest size of an output, and a message of 16 bytes follows them
-unfoldable pub isMonte : (function : Function) (text body : List ℕ) → Bool
-isMonte function text body =
-    eqb (headerNumber minimumName text) (leastSize function)
-    && eqb (headerNumber maximumName text) (greatestSize function)
-    && isHex 16 16 (value_of messageName body)
+unfoldable pub is_monte : (function : Function) (text body : List ℕ) → Bool
+is_monte function text body =
+    eqb (header_number minimum_name text) (least_size function)
+    && eqb (header_number maximum_name text) (greatest_size function)
+    && is_hex 16 16 (value_of message_name body)
 
 -- the chain before the last turn of the first case: the first output has the greatest size
-unfoldable pub firstChain : (function : Function) (digits : List ℕ) → Chain
-firstChain function digits =
-    turns function 999 (record { message = written (decoded digits) (zeros 16); extra = greatestSize function - leastSize function })
+unfoldable pub first_chain : (function : Function) (digits : List ℕ) → Chain
+first_chain function digits =
+    turns function 999 (record { message = written (decoded digits) (zeros 16); extra = greatest_size function - least_size function })
 
-unfoldable pub reportMonte : (function : Function) (text : List ℕ) → Report
-reportMonte function text =
-    cond (isMonte function text (body text))
-    (reportOn function Monte 0 (firstChain function (value_of messageName (body text))) text (afterLine (body text)))
+unfoldable pub report_monte : (function : Function) (text : List ℕ) → Report
+report_monte function text =
+    cond (is_monte function text (body text))
+    (report_on function Monte 0 (first_chain function (value_of message_name (body text))) text (after_line (body text)))
     (MalformedLine (line_at (length (body text)) text))
 
 -- `[Outputlen = `
-abbrev pub outputLengthHeader : List ℕ
-outputLengthHeader = 91 ∷ 79 ∷ 117 ∷ 116 ∷ 112 ∷ 117 ∷ 116 ∷ 108 ∷ 101 ∷ 110 ∷ 32 ∷ 61 ∷ 32 ∷ []
+abbrev pub output_length_header : List ℕ
+output_length_header = 91 ∷ 79 ∷ 117 ∷ 116 ∷ 112 ∷ 117 ∷ 116 ∷ 108 ∷ 101 ∷ 110 ∷ 32 ∷ 61 ∷ 32 ∷ []
 
 -- `[Input Length = `
-abbrev pub inputLengthHeader : List ℕ
-inputLengthHeader = 91 ∷ 73 ∷ 110 ∷ 112 ∷ 117 ∷ 116 ∷ 32 ∷ 76 ∷ 101 ∷ 110 ∷ 103 ∷ 116 ∷ 104 ∷ 32 ∷ 61 ∷ 32 ∷ []
+abbrev pub input_length_header : List ℕ
+input_length_header = 91 ∷ 73 ∷ 110 ∷ 112 ∷ 117 ∷ 116 ∷ 32 ∷ 76 ∷ 101 ∷ 110 ∷ 103 ∷ 116 ∷ 104 ∷ 32 ∷ 61 ∷ 32 ∷ []
 
 -- the report on a whole file
-abbrev pub reportOf : (function : Function) (kind : Kind) (text : List ℕ) → Report
-reportOf function Length text = reportPlain function Length outputLengthHeader text
-reportOf function Output text = reportPlain function Output inputLengthHeader text
-reportOf function Monte text = reportMonte function text
+abbrev pub report_of : (function : Function) (kind : Kind) (text : List ℕ) → Report
+report_of function Length text = report_plain function Length output_length_header text
+report_of function Output text = report_plain function Output input_length_header text
+report_of function Monte text = report_monte function text

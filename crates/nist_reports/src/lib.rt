@@ -1,6 +1,6 @@
 // What is reported of a response file.
 ghost use Rattle.std.specs.Prelude.{◌≡◌};
-ghost use Rattle.nist_reports.specs.Reports.{afterCase, nextChain, reportOn, noChain, firstChain, isMonte, reportPlain, reportMonte, reportOf};
+ghost use Rattle.nist_reports.specs.Reports.{after_case, next_chain, report_on, no_chain, first_chain, is_monte, report_plain, report_monte, report_of};
 
 use monte_chain::{Chain, Function};
 use nist_cases::{Kind, Verdict};
@@ -8,7 +8,7 @@ use vectors::Report;
 
 // What stands behind the lines of a case.
 fn after_case(kind: Kind, text: &[u8]) -> &[u8]
-    ensures { result.now ≡ afterCase kind text.now }
+    ensures { result.now ≡ after_case kind text.now }
 {
     let second = response_files::after_line(text);
     let third = response_files::after_line(second);
@@ -22,7 +22,7 @@ fn after_case(kind: Kind, text: &[u8]) -> &[u8]
 
 // The chain of the next case; only a Monte file has one.
 fn next_chain(function: Function, kind: Kind, c: Chain) -> Chain
-    ensures { result ≡ nextChain function kind c }
+    ensures { result ≡ next_chain function kind c }
 {
     match kind {
         Kind::Length => c,
@@ -40,7 +40,7 @@ fn judge_cases(
     number: usize,
     c: Chain,
 ) -> Report
-    ensures { result ≡ reportOn function kind number c text.now body.now }
+    ensures { result ≡ report_on function kind number c text.now body.now }
 {
     let mut rest = body;
     let mut c = c;
@@ -75,7 +75,7 @@ fn judge_cases(
 }
 
 fn no_chain() -> Chain
-    ensures { result ≡ noChain }
+    ensures { result ≡ no_chain }
 {
     Chain {
         message: [0; 16],
@@ -85,7 +85,7 @@ fn no_chain() -> Chain
 
 // A file whose named header gives the length of all outputs or of all messages.
 fn judge_plain(function: Function, kind: Kind, text: &[u8], name: &[u8]) -> Report
-    ensures { result ≡ reportPlain function kind name.now text.now }
+    ensures { result ≡ report_plain function kind name.now text.now }
 {
     let body = response_files::body(text);
     let number = response_files::header_number(text, name);
@@ -97,7 +97,7 @@ fn judge_plain(function: Function, kind: Kind, text: &[u8], name: &[u8]) -> Repo
 
 // Whether the headers of a Monte file give the function's least and greatest sizes, and a message of 16 bytes follows them.
 fn is_monte(function: Function, text: &[u8], body: &[u8]) -> bool
-    ensures { result ≡ isMonte function text.now body.now }
+    ensures { result ≡ is_monte function text.now body.now }
 {
     if response_files::header_number(text, b"[Minimum Output Length (bits) = ")
         != monte_chain::least_size(function)
@@ -115,17 +115,17 @@ fn is_monte(function: Function, text: &[u8], body: &[u8]) -> bool
 
 // The chain before the last turn of the first case.
 fn first_chain(function: Function, digits: &[u8]) -> Chain
-    ensures { result ≡ firstChain function digits.now }
+    ensures { result ≡ first_chain function digits.now }
 {
     let mut message = [0u8; 16];
-    hex::decode(digits, &mut message);
+    hexadecimal::decode(digits, &mut message);
     let extra = monte_chain::greatest_size(function) - monte_chain::least_size(function);
     monte_chain::many_turns(function, Chain { message, extra }, 999)
 }
 
 // A Monte file: the line `Msg = ` after the headers starts the chain.
 fn judge_monte(function: Function, text: &[u8]) -> Report
-    ensures { result ≡ reportMonte function text.now }
+    ensures { result ≡ report_monte function text.now }
 {
     let body = response_files::body(text);
     if !is_monte(function, text, body) {
@@ -143,7 +143,7 @@ fn judge_monte(function: Function, text: &[u8]) -> Report
 }
 
 pub fn judge_file(function: Function, kind: Kind, text: &[u8]) -> Report
-    ensures { result ≡ reportOf function kind text.now }
+    ensures { result ≡ report_of function kind text.now }
 {
     match kind {
         Kind::Length => judge_plain(function, Kind::Length, text, b"[Outputlen = "),

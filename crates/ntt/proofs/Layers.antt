@@ -13,5 +13,5 @@ pub layers-suc : (layer : ℕ → List ℕ → List ℕ) (k : ℕ) (a : List ℕ
 unfolding layers
 layers-suc layer k a = refl
 
-pub layers-more : (layer : ℕ → List ℕ → List ℕ) (k : ℕ) (a : List ℕ) → layers layer (k + 1) a ≡ layer k (layers layer k a)
-layers-more layer k a = ap (λ (n : ℕ). layers layer n a) (add-one k) ∙ layers-suc layer k a
+pub layers_more : (layer : ℕ → List ℕ → List ℕ) (k : ℕ) (a : List ℕ) → layers layer (k + 1) a ≡ layer k (layers layer k a)
+layers_more layer k a = ap (λ (n : ℕ). layers layer n a) (add-one k) ∙ layers-suc layer k a

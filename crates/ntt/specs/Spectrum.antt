@@ -2,22 +2,22 @@
 use Rattle.std.specs.Prelude.{List, ℕ, ◌+◌, ◌*◌, get_or}
 use Rattle.lists.specs.Table.{table}
 use Rattle.algebra.specs.Halving.{reversed}
-use Rattle.algebra.specs.Numbers.{mulMod, valueMod}
-use Rattle.algebra.specs.Negacyclic.{fromSpectrum}
+use Rattle.algebra.specs.Numbers.{mul_mod, value_mod}
+use Rattle.algebra.specs.Negacyclic.{from_spectrum}
 pub use Rattle.twiddles.specs.Powers.{q, degree, ψ, power}
 
 -- 1 / 1024 modulo q
-abbrev pub inverseDegree : ℕ
-inverseDegree = 59335
+abbrev pub inverse_degree : ℕ
+inverse_degree = 59335
 
 -- entry k is the value of the polynomial at ψ^(2 j + 1), where j is k with its ten bits in reverse order
-unfoldable pub spectrumOf : List ℕ → List ℕ
-spectrumOf a = table degree (λ k. valueMod q (power (1 + 2 * reversed 10 k)) a)
+unfoldable pub spectrum_of : List ℕ → List ℕ
+spectrum_of a = table degree (λ k. value_mod q (power (1 + 2 * reversed 10 k)) a)
 
--- the polynomial with the values v: `coefficients-of-spectrum` and `spectrum-of-coefficients` say that it is the only one
-unfoldable pub coefficientsOf : List ℕ → List ℕ
-coefficientsOf v = fromSpectrum q 10 ψ inverseDegree v
+-- the polynomial with the values v: `coefficients_of-spectrum` and `spectrum_of-coefficients` say that it is the only one
+unfoldable pub coefficients_of : List ℕ → List ℕ
+coefficients_of v = from_spectrum q 10 ψ inverse_degree v
 
 -- the values of a product, from those of its two factors
 unfoldable pub pointwise : (v w : List ℕ) → List ℕ
-pointwise v w = table degree (λ k. mulMod q (get_or v k 0) (get_or w k 0))
+pointwise v w = table degree (λ k. mul_mod q (get_or v k 0) (get_or w k 0))

@@ -1,9 +1,9 @@
 // The number theoretic transform of polynomials modulo X^1024 + 1 and q = 59393, on arrays of any u16 words.
 // The degree and the tables that the transforms are lent are those of crate twiddles.
 ghost use Rattle.std.specs.Prelude.{◌≡◌};
-ghost use Rattle.algebra.specs.Numbers.{mulMod, Below, reduced, scale};
-ghost use Rattle.ntt.specs.Spectrum.{q, degree, inverseDegree, spectrumOf, coefficientsOf, pointwise};
-ghost use Rattle.ntt.specs.Factors.{forwardFactors, backwardFactors, backwardLayers};
+ghost use Rattle.algebra.specs.Numbers.{mul_mod, Below, reduced, scale};
+ghost use Rattle.ntt.specs.Spectrum.{q, degree, inverse_degree, spectrum_of, coefficients_of, pointwise};
+ghost use Rattle.ntt.specs.Factors.{forward_factors, backward_factors, backward_layers};
 
 pub use twiddles::{DEGREE, FACTORS, backward_factors, forward_factors};
 use twiddles::{HALF, LAYERS};
@@ -28,8 +28,8 @@ fn reduced(a: Element) -> Element
 
 // The value of a at each root of X^1024 + 1. Two layers a turn, to and fro between two arrays.
 pub fn forward(a: Element, w: &[u16]) -> Spectrum
-    requires { w.now ≡ forwardFactors }
-    ensures { result ≡ spectrumOf a }
+    requires { w.now ≡ forward_factors }
+    ensures { result ≡ spectrum_of a }
 {
     let mut s = reduced(a);
     let mut t = [0u16; DEGREE];
@@ -44,7 +44,7 @@ pub fn forward(a: Element, w: &[u16]) -> Spectrum
 
 // A copy of a, each word divided by 1024 modulo q: 64 is Montgomery's form of 1 / 1024.
 fn divided(a: Spectrum) -> Spectrum
-    ensures { result ≡ scale q degree inverseDegree a }
+    ensures { result ≡ scale q degree inverse_degree a }
 {
     twiddles::scaled(64, a)
 }
@@ -52,8 +52,8 @@ fn divided(a: Spectrum) -> Spectrum
 // Ten layers back: the first from a, each other from the one before.
 fn backward_layers(a: Spectrum, w: &[u16]) -> Element
     requires below { Below q a }
-    requires w_value { w.now ≡ backwardFactors }
-    ensures { result ≡ backwardLayers a }
+    requires w_value { w.now ≡ backward_factors }
+    ensures { result ≡ backward_layers a }
 {
     let mut s = [0u16; DEGREE];
     let mut v = [0u32; HALF];
@@ -71,8 +71,8 @@ fn backward_layers(a: Spectrum, w: &[u16]) -> Element
 
 // The polynomial with the values a.
 pub fn backward(a: Spectrum, w: &[u16]) -> Element
-    requires { w.now ≡ backwardFactors }
-    ensures { result ≡ coefficientsOf a }
+    requires { w.now ≡ backward_factors }
+    ensures { result ≡ coefficients_of a }
 {
     backward_layers(divided(a), w)
 }
@@ -87,7 +87,7 @@ pub fn multiple(c: u16, a: Element) -> Element
 }
 
 fn multiply(x: u16, y: u16) -> u16
-    ensures { result ≡ mulMod q x y }
+    ensures { result ≡ mul_mod q x y }
 {
     modq::montgomery_product(modq::montgomery_form(x), y)
 }
@@ -105,13 +105,13 @@ pub fn pointwise(a: Spectrum, b: Spectrum) -> Spectrum
 
 // The same, divided by 1024: 36794 is 2^22 modulo q, so the first product is Montgomery's form of x / 1024.
 fn divided_product(x: u16, y: u16) -> u16
-    ensures { result ≡ mulMod q inverseDegree (mulMod q x y) }
+    ensures { result ≡ mul_mod q inverse_degree (mul_mod q x y) }
 {
     modq::montgomery_product(modq::montgomery_product(36794, x), y)
 }
 
 fn divided_pointwise(a: Spectrum, b: Spectrum) -> Spectrum
-    ensures { result ≡ scale q degree inverseDegree (pointwise a b) }
+    ensures { result ≡ scale q degree inverse_degree (pointwise a b) }
 {
     let mut r = [0u16; DEGREE];
     for i in 0..DEGREE {
@@ -122,8 +122,8 @@ fn divided_pointwise(a: Spectrum, b: Spectrum) -> Spectrum
 
 // The polynomial whose values are the products of those in a and b. The division by 1024 is part of these products.
 pub fn backward_product(a: Spectrum, b: Spectrum, w: &[u16]) -> Element
-    requires { w.now ≡ backwardFactors }
-    ensures { result ≡ coefficientsOf (pointwise a b) }
+    requires { w.now ≡ backward_factors }
+    ensures { result ≡ coefficients_of (pointwise a b) }
 {
     backward_layers(divided_pointwise(a, b), w)
 }

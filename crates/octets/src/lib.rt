@@ -1,6 +1,6 @@
 // Bytes as words and blocks, and how much of what is lent is read: what several crates need and the kit has no function for.
 ghost use Rattle.std.specs.Prelude.{◌≡◌, ◌+◌, ◌≤◌, min, length, get_or};
-ghost use Rattle.octets.specs.Words.{join8, word64At};
+ghost use Rattle.octets.specs.Words.{join8, word64_at};
 
 // An entry, a body, a tag, an element of the tag's field.
 pub const BLOCK_LENGTH: usize = 16;
@@ -36,7 +36,7 @@ fn join(b0: u8, b1: u8, b2: u8, b3: u8, b4: u8, b5: u8, b6: u8, b7: u8) -> u64
 // The word of eight bytes from a place on.
 pub fn word64_at(b: &[u8], at: usize) -> u64
     requires { at + 8 ≤ length b.now }
-    ensures { result ≡ word64At b.now at }
+    ensures { result ≡ word64_at b.now at }
 {
     join(
         b[at],

@@ -4,41 +4,41 @@ use Rattle.ring.specs.Ring.{n}
 use Rattle.ring.specs.Centred.{quotients}
 use Rattle.scheme.specs.Scheme.{Outcome, step2}
 use Rattle.answers.specs.declared.Answer.{Answer}
-use Rattle.records.specs.Layout.{headerLength, sealedEntryLength, blockLength}
-use Rattle.records.specs.Records.{first_of, second_of, c1Of, c2Of, encapsulationAnswer}
-use Rattle.sealed_records.specs.Front.{sealedFrontAnswer}
-use Rattle.triples.specs.Triple.{triple_of, tripleAnswer}
-use Rattle.secret_keys.specs.SecretKeys.{secretAnswer, elementsOf}
-use Rattle.keys.specs.Keys.{tripleNoiseLength, noiseTriple}
+use Rattle.records.specs.Layout.{header_length, sealed_entry_length, block_length}
+use Rattle.records.specs.Records.{first_of, second_of, c1_of, c2_of, encapsulation_answer}
+use Rattle.sealed_records.specs.Front.{sealed_front_answer}
+use Rattle.triples.specs.Triple.{triple_of, triple_answer}
+use Rattle.secret_keys.specs.SecretKeys.{secret_answer, elements_of}
+use Rattle.keys.specs.Keys.{triple_noise_length, noise_triple}
 use Rattle.calls.specs.Calls.{outcome}
-use Rattle.recovery.specs.Outcomes.{decapsulatedBy, openedBy}
+use Rattle.recovery.specs.Outcomes.{decapsulated_by, opened_by}
 
-abbrev pub decapsulatedOutcome : (key encapsulation dummy : List ℕ) → Outcome
-decapsulatedOutcome k c d = outcome (elementsOf k) (triple_of d) (c1Of c) (c2Of c)
+abbrev pub decapsulated_outcome : (key encapsulation dummy : List ℕ) → Outcome
+decapsulated_outcome k c d = outcome (elements_of k) (triple_of d) (c1_of c) (c2_of c)
 
-abbrev pub decapsulatedAnswer : (key encapsulation dummy : List ℕ) → Answer
-decapsulatedAnswer k c d = decapsulatedBy (secretAnswer k) (encapsulationAnswer c) (tripleAnswer d) (decapsulatedOutcome k c d)
+abbrev pub decapsulated_answer : (key encapsulation dummy : List ℕ) → Answer
+decapsulated_answer k c d = decapsulated_by (secret_answer k) (encapsulation_answer c) (triple_answer d) (decapsulated_outcome k c d)
 
 -- of a sealed entry or a batch
-abbrev pub openedOutcome : (key sealed noise : List ℕ) → Outcome
-openedOutcome k sealed noise = outcome (elementsOf k) (noiseTriple noise) (first_of sealed) (second_of sealed)
+abbrev pub opened_outcome : (key sealed noise : List ℕ) → Outcome
+opened_outcome k sealed noise = outcome (elements_of k) (noise_triple noise) (first_of sealed) (second_of sealed)
 
 -- w of step 3 beside it
-abbrev pub openedQuotients : (key sealed noise : List ℕ) → List ℤ
-openedQuotients k sealed noise =
-    quotients (step2 (elementsOf k).a (elementsOf k).b (elementsOf k).s (noiseTriple noise) (first_of sealed) (second_of sealed))
+abbrev pub opened_quotients : (key sealed noise : List ℕ) → List ℤ
+opened_quotients k sealed noise =
+    quotients (step2 (elements_of k).a (elements_of k).b (elements_of k).s (noise_triple noise) (first_of sealed) (second_of sealed))
 
-abbrev pub sealedAnswer : (key sealed : List ℕ) (version : ℕ) (between : Answer) (noise blocks tag : List ℕ) → Answer
-sealedAnswer k sealed version between noise blocks tag =
-    openedBy (secretAnswer k) (sealedFrontAnswer version between sealed) (openedOutcome k sealed noise) blocks tag
+abbrev pub sealed_answer : (key sealed : List ℕ) (version : ℕ) (between : Answer) (noise blocks tag : List ℕ) → Answer
+sealed_answer k sealed version between noise blocks tag =
+    opened_by (secret_answer k) (sealed_front_answer version between sealed) (opened_outcome k sealed noise) blocks tag
 
 -- ---- a sealed entry and what is lent with it, of all lengths
 
--- the lengths that `openAnswer` asks for
-abbrev pub entryFits? : (key sealed noise : List ℕ) (room : ℕ) → Bool
-entryFits? k sealed noise room =
-    leb headerLength (length k) && eqb (length sealed) sealedEntryLength && eqb (length noise) tripleNoiseLength && eqb room blockLength
+-- the lengths that `open_answer` asks for
+abbrev pub entry_fits : (key sealed noise : List ℕ) (room : ℕ) → Bool
+entry_fits k sealed noise room =
+    leb header_length (length k) && eqb (length sealed) sealed_entry_length && eqb (length noise) triple_noise_length && eqb room block_length
 
 -- w beside what is answered; zeros where a length does not fit
-abbrev pub entryQuotients : (key sealed noise : List ℕ) (room : ℕ) → List ℤ
-entryQuotients k sealed noise room = cond (entryFits? k sealed noise room) (openedQuotients k sealed noise) (replicate n (pos 0))
+abbrev pub entry_quotients : (key sealed noise : List ℕ) (room : ℕ) → List ℤ
+entry_quotients k sealed noise room = cond (entry_fits k sealed noise room) (opened_quotients k sealed noise) (replicate n (pos 0))

@@ -1,14 +1,14 @@
 // The calls of a desk that open, which is lent a secret key. Buffers may have any length; under any answer but Done every output is as it came.
 ghost use Rattle.std.specs.Prelude.{◌≡◌, ◌++◌, ◌%◌, ◌≤◌, length};
-ghost use Rattle.derivation.specs.Derivation.{underKeystream};
-ghost use Rattle.answers.specs.Answers.{number, onDone};
-ghost use Rattle.records.specs.Layout.{thirdPlace, encapsulationLength, tripleLength, blockLength};
-ghost use Rattle.triples.specs.Triple.{tripleBytes};
-ghost use Rattle.keys.specs.Keys.{tripleNoiseLength};
-ghost use Rattle.calls.specs.Calls.{decapsulateAnswer, decapsulateOut, openedEntry, openAnswer, openOut};
+ghost use Rattle.derivation.specs.Derivation.{under_keystream};
+ghost use Rattle.answers.specs.Answers.{number, on_done};
+ghost use Rattle.records.specs.Layout.{third_place, encapsulation_length, triple_length, block_length};
+ghost use Rattle.triples.specs.Triple.{triple_bytes};
+ghost use Rattle.keys.specs.Keys.{triple_noise_length};
+ghost use Rattle.calls.specs.Calls.{decapsulate_answer, decapsulate_out, opened_entry, open_answer, open_out};
 ghost use Rattle.calls.specs.Promises.{DecapsulateExact, OpenExact};
-ghost use Rattle.recovery.specs.Outcomes.{asTriple, answered, tripleKey0};
-ghost use Rattle.opening.specs.Parts.{decapsulatedOutcome, decapsulatedAnswer, openedOutcome, openedQuotients, sealedAnswer, entryQuotients};
+ghost use Rattle.recovery.specs.Outcomes.{as_triple, answered, triple_key0};
+ghost use Rattle.opening.specs.Parts.{decapsulated_outcome, decapsulated_answer, opened_outcome, opened_quotients, sealed_answer, entry_quotients};
 
 use answers::{Answer, Refusal};
 use encoding::HEADER_LENGTH;
@@ -25,9 +25,9 @@ use sealed_records::SEALED_ENTRY_VERSION;
 
 // Of an encapsulation and a dummy with the right lengths, with a key of any.
 fn decapsulate_records(key: &[u8], encapsulation: &[u8], dummy: &[u8]) -> Decapsulated
-    requires { (length encapsulation.now ≡ encapsulationLength) × (length dummy.now ≡ tripleLength) }
-    ensures answer_value { result.answer ≡ decapsulatedAnswer key.now encapsulation.now dummy.now }
-    ensures triple_value { asTriple result.triple ≡ answered (decapsulatedOutcome key.now encapsulation.now dummy.now) }
+    requires { (length encapsulation.now ≡ encapsulation_length) × (length dummy.now ≡ triple_length) }
+    ensures answer_value { result.answer ≡ decapsulated_answer key.now encapsulation.now dummy.now }
+    ensures triple_value { as_triple result.triple ≡ answered (decapsulated_outcome key.now encapsulation.now dummy.now) }
 {
     let mut forward = [0u16; FACTORS];
     let mut backward = [0u16; FACTORS];
@@ -41,8 +41,8 @@ fn decapsulate_records(key: &[u8], encapsulation: &[u8], dummy: &[u8]) -> Decaps
 }
 
 fn write_triple(answer: Answer, t: Triple, out: &mut [u8])
-    requires { length out.old ≡ tripleLength }
-    ensures { out.new ≡ onDone answer (tripleBytes t.r t.e1 t.e2) out.old }
+    requires { length out.old ≡ triple_length }
+    ensures { out.new ≡ on_done answer (triple_bytes t.r t.e1 t.e2) out.old }
 {
     if let Answer::Done = answer {
         let r = t.r;
@@ -54,8 +54,8 @@ fn write_triple(answer: Answer, t: Triple, out: &mut [u8])
 
 // The ternary (r, e1, e2) with (c1, c2) = (a × r + e1, b × r + e2), whatever the dummy. ENCAPSULATION_LENGTH bytes give TRIPLE_LENGTH.
 pub fn decapsulate(key: &[u8], encapsulation: &[u8], dummy: &[u8], out: &mut [u8]) -> Answer
-    ensures value { result ≡ decapsulateAnswer key.now encapsulation.now dummy.now (length out.old) }
-    ensures out_after { out.new ≡ decapsulateOut key.now encapsulation.now dummy.now out.old }
+    ensures value { result ≡ decapsulate_answer key.now encapsulation.now dummy.now (length out.old) }
+    ensures out_after { out.new ≡ decapsulate_out key.now encapsulation.now dummy.now out.old }
     ensures decapsulate_exact { DecapsulateExact key.now encapsulation.now dummy.now out.old (number result) out.new }
 {
     let fits = (HEADER_LENGTH <= key.len())
@@ -86,10 +86,10 @@ fn recover_sealed(
     body: &[u8],
     tag: &[u8],
 ) -> Recovered
-    requires { (thirdPlace ≤ length sealed.now) × (length noise.now ≡ tripleNoiseLength) × (length front.now % 16 ≡ 0) × (length tag.now ≡ blockLength) }
-    ensures answer_value { result.answer ≡ sealedAnswer key.now sealed.now version between noise.now (front.now ++ body.now) tag.now }
-    ensures k0_value { result.k0 ≡ tripleKey0 (answered (openedOutcome key.now sealed.now noise.now)) }
-    ensures quotients_value { result.quotients ≡ openedQuotients key.now sealed.now noise.now }
+    requires { (third_place ≤ length sealed.now) × (length noise.now ≡ triple_noise_length) × (length front.now % 16 ≡ 0) × (length tag.now ≡ block_length) }
+    ensures answer_value { result.answer ≡ sealed_answer key.now sealed.now version between noise.now (front.now ++ body.now) tag.now }
+    ensures k0_value { result.k0 ≡ triple_key0 (answered (opened_outcome key.now sealed.now noise.now)) }
+    ensures quotients_value { result.quotients ≡ opened_quotients key.now sealed.now noise.now }
 {
     let mut forward = [0u16; FACTORS];
     let mut backward = [0u16; FACTORS];
@@ -105,7 +105,7 @@ fn recover_sealed(
 // Shows the entry of a body, in a buffer of its length.
 fn write_entry(answer: Answer, k0: [u8; BLOCK_LENGTH], body: &[u8], out: &mut [u8])
     requires { length body.now ≡ length out.old }
-    ensures { out.new ≡ onDone answer (underKeystream k0 body.now) out.old }
+    ensures { out.new ≡ on_done answer (under_keystream k0 body.now) out.old }
 {
     if let Answer::Done = answer {
         derivation::under_keystream(k0, body, out);
@@ -131,10 +131,10 @@ pub fn open_sealed(
     tag: &[u8],
     out: &mut [u8],
 ) -> OpenedSealed
-    requires { (thirdPlace ≤ length sealed.now) × (length noise.now ≡ tripleNoiseLength) × (length front.now % 16 ≡ 0) × (length tag.now ≡ blockLength) × (length body.now ≡ length out.old) }
-    ensures answer_value { result.answer ≡ sealedAnswer key.now sealed.now version between noise.now (front.now ++ body.now) tag.now }
-    ensures quotients_value { result.quotients ≡ openedQuotients key.now sealed.now noise.now }
-    ensures out_after { out.new ≡ onDone result.answer (openedEntry (openedOutcome key.now sealed.now noise.now) body.now) out.old }
+    requires { (third_place ≤ length sealed.now) × (length noise.now ≡ triple_noise_length) × (length front.now % 16 ≡ 0) × (length tag.now ≡ block_length) × (length body.now ≡ length out.old) }
+    ensures answer_value { result.answer ≡ sealed_answer key.now sealed.now version between noise.now (front.now ++ body.now) tag.now }
+    ensures quotients_value { result.quotients ≡ opened_quotients key.now sealed.now noise.now }
+    ensures out_after { out.new ≡ on_done result.answer (opened_entry (opened_outcome key.now sealed.now noise.now) body.now) out.old }
 {
     let r = recover_sealed(key, sealed, version, between, noise, front, body, tag);
     let answer = r.answer;
@@ -148,9 +148,9 @@ pub fn open_sealed(
 
 // A sealed entry opened, with the quotients of the opening; zeros where a length does not fit.
 pub fn open_entry(key: &[u8], sealed: &[u8], noise: &[u8], out: &mut [u8]) -> OpenedSealed
-    ensures answer_value { result.answer ≡ openAnswer key.now sealed.now noise.now (length out.old) }
-    ensures quotients_value { result.quotients ≡ entryQuotients key.now sealed.now noise.now (length out.old) }
-    ensures out_after { out.new ≡ openOut key.now sealed.now noise.now out.old }
+    ensures answer_value { result.answer ≡ open_answer key.now sealed.now noise.now (length out.old) }
+    ensures quotients_value { result.quotients ≡ entry_quotients key.now sealed.now noise.now (length out.old) }
+    ensures out_after { out.new ≡ open_out key.now sealed.now noise.now out.old }
 {
     let fits = (HEADER_LENGTH <= key.len())
         & (sealed.len() == SEALED_ENTRY_LENGTH)
@@ -178,8 +178,8 @@ pub fn open_entry(key: &[u8], sealed: &[u8], noise: &[u8], out: &mut [u8]) -> Op
 // entry = body xor keystream where tag = K1 × body + K2, of what the ternary triple of (c1, c2) derives, whatever the dummy. SEALED_ENTRY_LENGTH
 // bytes give BLOCK_LENGTH.
 pub fn open(key: &[u8], sealed: &[u8], noise: &[u8], out: &mut [u8]) -> Answer
-    ensures value { result ≡ openAnswer key.now sealed.now noise.now (length out.old) }
-    ensures out_after { out.new ≡ openOut key.now sealed.now noise.now out.old }
+    ensures value { result ≡ open_answer key.now sealed.now noise.now (length out.old) }
+    ensures out_after { out.new ≡ open_out key.now sealed.now noise.now out.old }
     ensures open_exact { OpenExact key.now sealed.now noise.now out.old (number result) out.new }
 {
     let opened = open_entry(key, sealed, noise, out);

@@ -4,15 +4,15 @@
 ghost use Rattle.std.specs.Prelude.{◌≡◌, length};
 ghost use Rattle.shake.specs.Shake.{shake128, shake256};
 ghost use Rattle.answers.specs.Locations.{code};
-ghost use Rattle.calls.specs.Calls.{checkAnswer, keygenAnswer, keygenPublic, keygenSecret, seededKeygenAnswer, seededKeygenPublic, seededKeygenSecret};
-ghost use Rattle.calls.specs.Calls.{encapsulateAnswer, encapsulateOut};
-ghost use Rattle.calls.specs.Calls.{decapsulateAnswer, decapsulateOut, sealAnswer, sealOut, openAnswer, openOut};
+ghost use Rattle.calls.specs.Calls.{check_answer, keygen_answer, keygen_public, keygen_secret, seeded_keygen_answer, seeded_keygen_public, seeded_keygen_secret};
+ghost use Rattle.calls.specs.Calls.{encapsulate_answer, encapsulate_out};
+ghost use Rattle.calls.specs.Calls.{decapsulate_answer, decapsulate_out, seal_answer, seal_out, open_answer, open_out};
 ghost use Rattle.calls.specs.Promises.{CheckExact, DecapsulateExact, OpenExact};
-ghost use Rattle.batch_calls.specs.Calls.{sealBatchAnswer, sealBatchOut, openBatchAnswer, openBatchOut, openBatchCount};
+ghost use Rattle.batch_calls.specs.Calls.{seal_batch_answer, seal_batch_out, open_batch_answer, open_batch_out, open_batch_count};
 ghost use Rattle.batch_calls.specs.Promises.{OpenBatchExact};
-ghost use Rattle.conversion_calls.specs.Calls.{expandAnswer, expandOut, compactAnswer, compactOut};
+ghost use Rattle.conversion_calls.specs.Calls.{expand_answer, expand_out, compact_answer, compact_out};
 ghost use Rattle.conversion_calls.specs.Promises.{ExpandExact, CompactExact};
-ghost use Rattle.margin_calls.specs.Calls.{openMarginOut};
+ghost use Rattle.margin_calls.specs.Calls.{open_margin_out};
 ghost use Rattle.margin_calls.specs.Promises.{OpenMarginExact};
 
 #[unsafe(no_mangle)]
@@ -23,9 +23,9 @@ pub extern "C" fn polka_keygen(
     public: &mut [u8],
     secret: &mut [u8],
 ) -> u32
-    ensures value { result ≡ code (keygenAnswer stream.now s.now e.now (length public.old) (length secret.old)) }
-    ensures public_after { public.new ≡ keygenPublic stream.now s.now e.now public.old secret.old }
-    ensures secret_after { secret.new ≡ keygenSecret stream.now s.now e.now public.old secret.old }
+    ensures value { result ≡ code (keygen_answer stream.now s.now e.now (length public.old) (length secret.old)) }
+    ensures public_after { public.new ≡ keygen_public stream.now s.now e.now public.old secret.old }
+    ensures secret_after { secret.new ≡ keygen_secret stream.now s.now e.now public.old secret.old }
 {
     let answer = key_calls::keygen(stream, s, e, public, secret);
     answers::code(answer)
@@ -39,9 +39,9 @@ pub extern "C" fn polka_keygen_from_seed(
     public: &mut [u8],
     secret: &mut [u8],
 ) -> u32
-    ensures value { result ≡ code (seededKeygenAnswer seed.now s.now e.now (length public.old) (length secret.old)) }
-    ensures public_after { public.new ≡ seededKeygenPublic seed.now s.now e.now public.old secret.old }
-    ensures secret_after { secret.new ≡ seededKeygenSecret seed.now s.now e.now public.old secret.old }
+    ensures value { result ≡ code (seeded_keygen_answer seed.now s.now e.now (length public.old) (length secret.old)) }
+    ensures public_after { public.new ≡ seeded_keygen_public seed.now s.now e.now public.old secret.old }
+    ensures secret_after { secret.new ≡ seeded_keygen_secret seed.now s.now e.now public.old secret.old }
 {
     let answer = seeded_keygen::keygen_from_seed(seed, s, e, public, secret);
     answers::code(answer)
@@ -49,7 +49,7 @@ pub extern "C" fn polka_keygen_from_seed(
 
 #[unsafe(no_mangle)]
 pub extern "C" fn polka_check_secret_key(key: &[u8]) -> u32
-    ensures value { result ≡ code (checkAnswer key.now) }
+    ensures value { result ≡ code (check_answer key.now) }
     ensures check_exact { CheckExact key.now result }
 {
     let answer = key_calls::check_secret_key(key);
@@ -58,8 +58,8 @@ pub extern "C" fn polka_check_secret_key(key: &[u8]) -> u32
 
 #[unsafe(no_mangle)]
 pub extern "C" fn polka_expand_secret_key(key: &[u8], out: &mut [u8]) -> u32
-    ensures value { result ≡ code (expandAnswer key.now (length out.old)) }
-    ensures out_after { out.new ≡ expandOut key.now out.old }
+    ensures value { result ≡ code (expand_answer key.now (length out.old)) }
+    ensures out_after { out.new ≡ expand_out key.now out.old }
     ensures expand_exact { ExpandExact key.now out.old result out.new }
 {
     let answer = key_conversion::expand_secret_key(key, out);
@@ -68,8 +68,8 @@ pub extern "C" fn polka_expand_secret_key(key: &[u8], out: &mut [u8]) -> u32
 
 #[unsafe(no_mangle)]
 pub extern "C" fn polka_compact_secret_key(key: &[u8], out: &mut [u8]) -> u32
-    ensures value { result ≡ code (compactAnswer key.now (length out.old)) }
-    ensures out_after { out.new ≡ compactOut key.now out.old }
+    ensures value { result ≡ code (compact_answer key.now (length out.old)) }
+    ensures out_after { out.new ≡ compact_out key.now out.old }
     ensures compact_exact { CompactExact key.now out.old result out.new }
 {
     let answer = key_conversion::compact_secret_key(key, out);
@@ -78,8 +78,8 @@ pub extern "C" fn polka_compact_secret_key(key: &[u8], out: &mut [u8]) -> u32
 
 #[unsafe(no_mangle)]
 pub extern "C" fn polka_encapsulate(key: &[u8], triple: &[u8], out: &mut [u8]) -> u32
-    ensures value { result ≡ code (encapsulateAnswer key.now triple.now (length out.old)) }
-    ensures out_after { out.new ≡ encapsulateOut key.now triple.now out.old }
+    ensures value { result ≡ code (encapsulate_answer key.now triple.now (length out.old)) }
+    ensures out_after { out.new ≡ encapsulate_out key.now triple.now out.old }
 {
     let answer = sealing::encapsulate(key, triple, out);
     answers::code(answer)
@@ -92,8 +92,8 @@ pub extern "C" fn polka_decapsulate(
     dummy: &[u8],
     out: &mut [u8],
 ) -> u32
-    ensures value { result ≡ code (decapsulateAnswer key.now encapsulation.now dummy.now (length out.old)) }
-    ensures out_after { out.new ≡ decapsulateOut key.now encapsulation.now dummy.now out.old }
+    ensures value { result ≡ code (decapsulate_answer key.now encapsulation.now dummy.now (length out.old)) }
+    ensures out_after { out.new ≡ decapsulate_out key.now encapsulation.now dummy.now out.old }
     ensures decapsulate_exact { DecapsulateExact key.now encapsulation.now dummy.now out.old result out.new }
 {
     let answer = opening::decapsulate(key, encapsulation, dummy, out);
@@ -102,8 +102,8 @@ pub extern "C" fn polka_decapsulate(
 
 #[unsafe(no_mangle)]
 pub extern "C" fn polka_seal(key: &[u8], noise: &[u8], entry: &[u8], out: &mut [u8]) -> u32
-    ensures value { result ≡ code (sealAnswer key.now noise.now entry.now (length out.old)) }
-    ensures out_after { out.new ≡ sealOut key.now noise.now entry.now out.old }
+    ensures value { result ≡ code (seal_answer key.now noise.now entry.now (length out.old)) }
+    ensures out_after { out.new ≡ seal_out key.now noise.now entry.now out.old }
 {
     let answer = sealing::seal(key, noise, entry, out);
     answers::code(answer)
@@ -111,8 +111,8 @@ pub extern "C" fn polka_seal(key: &[u8], noise: &[u8], entry: &[u8], out: &mut [
 
 #[unsafe(no_mangle)]
 pub extern "C" fn polka_open(key: &[u8], sealed: &[u8], noise: &[u8], out: &mut [u8]) -> u32
-    ensures value { result ≡ code (openAnswer key.now sealed.now noise.now (length out.old)) }
-    ensures out_after { out.new ≡ openOut key.now sealed.now noise.now out.old }
+    ensures value { result ≡ code (open_answer key.now sealed.now noise.now (length out.old)) }
+    ensures out_after { out.new ≡ open_out key.now sealed.now noise.now out.old }
     ensures open_exact { OpenExact key.now sealed.now noise.now out.old result out.new }
 {
     let answer = opening::open(key, sealed, noise, out);
@@ -121,8 +121,8 @@ pub extern "C" fn polka_open(key: &[u8], sealed: &[u8], noise: &[u8], out: &mut 
 
 #[unsafe(no_mangle)]
 pub extern "C" fn polka_seal_batch(key: &[u8], noise: &[u8], blocks: &[u8], out: &mut [u8]) -> u32
-    ensures value { result ≡ code (sealBatchAnswer key.now noise.now blocks.now (length out.old)) }
-    ensures out_after { out.new ≡ sealBatchOut key.now noise.now blocks.now out.old }
+    ensures value { result ≡ code (seal_batch_answer key.now noise.now blocks.now (length out.old)) }
+    ensures out_after { out.new ≡ seal_batch_out key.now noise.now blocks.now out.old }
 {
     let answer = batch_sealing::seal_batch(key, noise, blocks, out);
     answers::code(answer)
@@ -137,9 +137,9 @@ pub extern "C" fn polka_open_batch(
     out: &mut [u8],
     count: &mut u32,
 ) -> u32
-    ensures value { result ≡ code (openBatchAnswer key.now batch.now noise.now (length out.old)) }
-    ensures out_after { out.new ≡ openBatchOut key.now batch.now noise.now out.old }
-    ensures count_after { count.new ≡ openBatchCount key.now batch.now noise.now (length out.old) count.old }
+    ensures value { result ≡ code (open_batch_answer key.now batch.now noise.now (length out.old)) }
+    ensures out_after { out.new ≡ open_batch_out key.now batch.now noise.now out.old }
+    ensures count_after { count.new ≡ open_batch_count key.now batch.now noise.now (length out.old) count.old }
     ensures open_batch_exact { OpenBatchExact key.now batch.now noise.now out.old count.old result out.new count.new }
 {
     let opened = batch_opening::open_batch(key, batch, noise, out);
@@ -157,9 +157,9 @@ pub extern "C" fn polka_open_with_margin(
     out: &mut [u8],
     margin: &mut u32,
 ) -> u32
-    ensures value { result ≡ code (openAnswer key.now sealed.now noise.now (length out.old)) }
-    ensures out_after { out.new ≡ openOut key.now sealed.now noise.now out.old }
-    ensures margin_after { margin.new ≡ openMarginOut key.now sealed.now noise.now (length out.old) margin.old }
+    ensures value { result ≡ code (open_answer key.now sealed.now noise.now (length out.old)) }
+    ensures out_after { out.new ≡ open_out key.now sealed.now noise.now out.old }
+    ensures margin_after { margin.new ≡ open_margin_out key.now sealed.now noise.now (length out.old) margin.old }
     ensures open_margin_exact { OpenMarginExact key.now sealed.now noise.now out.old margin.old result out.new margin.new }
 {
     let opened = margin_opening::open_with_margin(key, sealed, noise, out);

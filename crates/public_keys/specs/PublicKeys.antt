@@ -3,50 +3,50 @@
 use Rattle.std.specs.Prelude.{Bool, cond, ◌||◌, List, ℕ, eqb, length}
 use Rattle.std.proofs.Math.Bool.{decide}
 use Rattle.ring.specs.Ring.{n}
-use Rattle.ring.specs.Invertible.{invertible?}
+use Rattle.ring.specs.Invertible.{is_invertible}
 use Rattle.sampling.specs.Stream.{taken}
-use Rattle.seeds.specs.Seeds.{seedStream, seedElement}
+use Rattle.seeds.specs.Seeds.{seed_stream, seed_element}
 use Rattle.answers.specs.declared.Refusal.TheVariants as Refusal
 use Rattle.answers.specs.declared.Answer.{Answer}
 use Rattle.answers.specs.declared.Answer.TheVariants.{Done}
-use Rattle.answers.specs.Answers.{unless, andThen}
-use Rattle.records.specs.Layout.{publicKeyLength, seededKeyLength}
-use Rattle.records.specs.Records.{first_of, second_of, publicFrontAnswer, seedOf, seededB, seededRecordAnswer}
+use Rattle.answers.specs.Answers.{unless, and_then}
+use Rattle.records.specs.Layout.{public_key_length, seeded_key_length}
+use Rattle.records.specs.Records.{first_of, second_of, public_front_answer, seed_of, seeded_b, seeded_record_answer}
 
 -- ---- checks that key generation shares
 
 -- 8: a stream with fewer than 1,024 words below q
-abbrev pub streamAnswer : List ℕ → Answer
-streamAnswer stream = unless (eqb (length (taken stream)) n) Refusal.StreamExhausted Done
+abbrev pub stream_answer : List ℕ → Answer
+stream_answer stream = unless (eqb (length (taken stream)) n) Refusal.StreamExhausted Done
 
 -- 6
-abbrev pub inverseAnswer : (b : List ℕ) → Answer
-inverseAnswer b = unless (decide (invertible? b)) Refusal.NotInvertible Done
+abbrev pub inverse_answer : (b : List ℕ) → Answer
+inverse_answer b = unless (decide (is_invertible b)) Refusal.NotInvertible Done
 
 -- ---- either record
 
 -- one of the two lengths; any other is 1
-abbrev pub publicLength? : ℕ → Bool
-publicLength? size = eqb size publicKeyLength || eqb size seededKeyLength
+abbrev pub is_public_length : ℕ → Bool
+is_public_length size = eqb size public_key_length || eqb size seeded_key_length
 
 -- the length is that of "PDS"
-abbrev pub seeded? : List ℕ → Bool
-seeded? k = eqb (length k) seededKeyLength
+abbrev pub is_seeded_key : List ℕ → Bool
+is_seeded_key k = eqb (length k) seeded_key_length
 
-unfoldable pub publicA : List ℕ → List ℕ
-publicA k = cond (seeded? k) (seedElement (seedOf k)) (first_of k)
+unfoldable pub public_a : List ℕ → List ℕ
+public_a k = cond (is_seeded_key k) (seed_element (seed_of k)) (first_of k)
 
-unfoldable pub publicB : List ℕ → List ℕ
-publicB k = cond (seeded? k) (seededB k) (second_of k)
+unfoldable pub public_b : List ℕ → List ℕ
+public_b k = cond (is_seeded_key k) (seeded_b k) (second_of k)
 
 -- 2, 3, 4
-unfoldable pub publicRecordAnswer : List ℕ → Answer
-publicRecordAnswer k = cond (seeded? k) (seededRecordAnswer k) (publicFrontAnswer k)
+unfoldable pub public_record_answer : List ℕ → Answer
+public_record_answer k = cond (is_seeded_key k) (seeded_record_answer k) (public_front_answer k)
 
 -- 8, of a seed
-unfoldable pub publicStreamAnswer : List ℕ → Answer
-publicStreamAnswer k = cond (seeded? k) (streamAnswer (seedStream (seedOf k))) Done
+unfoldable pub public_stream_answer : List ℕ → Answer
+public_stream_answer k = cond (is_seeded_key k) (stream_answer (seed_stream (seed_of k))) Done
 
 -- 2, 3, 4, then 8, then 6
-unfoldable pub publicAnswer : List ℕ → Answer
-publicAnswer k = andThen (publicRecordAnswer k) (andThen (publicStreamAnswer k) (inverseAnswer (publicB k)))
+unfoldable pub public_answer : List ℕ → Answer
+public_answer k = and_then (public_record_answer k) (and_then (public_stream_answer k) (inverse_answer (public_b k)))

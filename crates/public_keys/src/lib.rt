@@ -1,13 +1,13 @@
 // Public keys read off the bytes that a call was lent: checked in the order of documents 01 and 02, and prepared for the scheme. The length
 // picks the record. The calls test every length first, so the readers are lent a buffer of one of the two lengths.
 ghost use Rattle.std.specs.Prelude.{◌≡◌, true, length};
-ghost use Rattle.ntt.specs.Spectrum.{spectrumOf};
-ghost use Rattle.ntt.specs.Factors.{forwardFactors};
+ghost use Rattle.ntt.specs.Spectrum.{spectrum_of};
+ghost use Rattle.ntt.specs.Factors.{forward_factors};
 ghost use Rattle.answers.specs.declared.KeyRecord.TheVariants as Kind;
-ghost use Rattle.records.specs.Layout.{publicKeyLength, seededKeyLength};
-ghost use Rattle.records.specs.Records.{aWord, bWord};
-ghost use Rattle.records.specs.Read.{frontOf};
-ghost use Rattle.public_keys.specs.PublicKeys.{publicLength?, publicA, publicB, publicRecordAnswer, publicStreamAnswer, publicAnswer};
+ghost use Rattle.records.specs.Layout.{public_key_length, seeded_key_length};
+ghost use Rattle.records.specs.Records.{a_word, b_word};
+ghost use Rattle.records.specs.Read.{front_of};
+ghost use Rattle.public_keys.specs.PublicKeys.{is_public_length, public_a, public_b, public_record_answer, public_stream_answer, public_answer};
 
 use answers::{Answer, KeyPart, KeyRecord, Refusal};
 use ntt::{DEGREE, Element, Spectrum};
@@ -15,7 +15,7 @@ use records::{Elements, PUBLIC_KEY_LENGTH, PUBLIC_KEY_MARK, SEED, SEEDED_B, SEED
 
 // Whether a public key may have this length.
 pub fn is_public_length(size: usize) -> bool
-    ensures { result ≡ publicLength? size }
+    ensures { result ≡ is_public_length size }
 {
     (size == PUBLIC_KEY_LENGTH) | (size == SEEDED_KEY_LENGTH)
 }
@@ -33,7 +33,7 @@ struct Parts {
 
 // What the front of a record with the mark "PDK" is answered by; its first word that is q or more is named.
 fn front_answer(read: Elements) -> Answer
-    ensures { result ≡ frontOf read (aWord Kind.PublicKey read.unreduced.first) (bWord Kind.PublicKey read.unreduced.second) }
+    ensures { result ≡ front_of read (a_word Kind.PublicKey read.unreduced.first) (b_word Kind.PublicKey read.unreduced.second) }
 {
     let at = read.unreduced;
     let a = KeyRecord::PublicKey(KeyPart::A(at.first));
@@ -43,9 +43,9 @@ fn front_answer(read: Elements) -> Answer
 
 // Of such a record.
 fn read_long(bytes: &[u8]) -> Parts
-    requires { length bytes.now ≡ publicKeyLength }
-    ensures record_value { (result.record ≡ publicRecordAnswer bytes.now) × (result.stream ≡ publicStreamAnswer bytes.now) }
-    ensures a_value { (result.a ≡ publicA bytes.now) × (result.b ≡ publicB bytes.now) }
+    requires { length bytes.now ≡ public_key_length }
+    ensures record_value { (result.record ≡ public_record_answer bytes.now) × (result.stream ≡ public_stream_answer bytes.now) }
+    ensures a_value { (result.a ≡ public_a bytes.now) × (result.b ≡ public_b bytes.now) }
 {
     let read = records::read_record(bytes, PUBLIC_KEY_MARK, 1);
     let record = front_answer(read);
@@ -61,9 +61,9 @@ fn read_long(bytes: &[u8]) -> Parts
 
 // Of a record with the mark "PDS".
 fn read_seeded(bytes: &[u8]) -> Parts
-    requires { length bytes.now ≡ seededKeyLength }
-    ensures record_value { (result.record ≡ publicRecordAnswer bytes.now) × (result.stream ≡ publicStreamAnswer bytes.now) }
-    ensures a_value { (result.a ≡ publicA bytes.now) × (result.b ≡ publicB bytes.now) }
+    requires { length bytes.now ≡ seeded_key_length }
+    ensures record_value { (result.record ≡ public_record_answer bytes.now) × (result.stream ≡ public_stream_answer bytes.now) }
+    ensures a_value { (result.a ≡ public_a bytes.now) × (result.b ≡ public_b bytes.now) }
 {
     let read = seeded_records::read_seeded_key(bytes);
     let record = seeded_records::record_answer(read);
@@ -81,9 +81,9 @@ fn read_seeded(bytes: &[u8]) -> Parts
 
 // Of either.
 fn read_parts(bytes: &[u8]) -> Parts
-    requires { publicLength? (length bytes.now) ≡ true }
-    ensures record_value { (result.record ≡ publicRecordAnswer bytes.now) × (result.stream ≡ publicStreamAnswer bytes.now) }
-    ensures a_value { (result.a ≡ publicA bytes.now) × (result.b ≡ publicB bytes.now) }
+    requires { is_public_length (length bytes.now) ≡ true }
+    ensures record_value { (result.record ≡ public_record_answer bytes.now) × (result.stream ≡ public_stream_answer bytes.now) }
+    ensures a_value { (result.a ≡ public_a bytes.now) × (result.b ≡ public_b bytes.now) }
 {
     if bytes.len() == SEEDED_KEY_LENGTH {
         return read_seeded(bytes);
@@ -102,9 +102,9 @@ pub struct PublicKey {
 }
 
 pub fn read_public_key(bytes: &[u8], forward: &[u16]) -> PublicKey
-    requires { (publicLength? (length bytes.now) ≡ true) × (forward.now ≡ forwardFactors) }
-    ensures answer_value { result.answer ≡ publicAnswer bytes.now }
-    ensures a_value { (result.a ≡ spectrumOf (publicA bytes.now)) × (result.b ≡ spectrumOf (publicB bytes.now)) }
+    requires { (is_public_length (length bytes.now) ≡ true) × (forward.now ≡ forward_factors) }
+    ensures answer_value { result.answer ≡ public_answer bytes.now }
+    ensures a_value { (result.a ≡ spectrum_of (public_a bytes.now)) × (result.b ≡ spectrum_of (public_b bytes.now)) }
 {
     let read = read_parts(bytes);
     let record = read.record;

@@ -9,38 +9,38 @@ use native.Mathlib.Omega.{arith}
 use lib.Dec.{ltb}
 use lib.ListN.{length, get_or}
 use borrow.Author.Tests.{lt-ltb, le-ltb, ltb-true, ltb-false, eq-eqb, ne_eqb, eqb-true, eqb-false, not-true, not-false}
-use Rattle.lists.specs.First.{firstFailing}
-use Rattle.lists.proofs.Scan.{Scanned, scanned-all, first-within, first_passes, first-fails}
+use Rattle.lists.specs.First.{first_failing}
+use Rattle.lists.proofs.Scan.{Scanned, scanned_all, first-within, first_passes, first-fails}
 use Rattle.ntt.specs.Spectrum.{q}
-use Rattle.reciprocals.specs.Reciprocals.{nonzero?, hasZero}
+use Rattle.reciprocals.specs.Reciprocals.{is_nonzero, has_zero}
 
-pub zero-scanned : (t : List ℕ) {any : Bool} {i : ℕ} → Scanned nonzero? t (not any) i → length t ≤ i → any ≡ hasZero t
-unfolding hasZero
+pub zero-scanned : (t : List ℕ) {any : Bool} {i : ℕ} → Scanned is_nonzero t (not any) i → length t ≤ i → any ≡ has_zero t
+unfolding has_zero
 zero-scanned t {any} s h = by (dec_lt f (length t))
   where
     f : ℕ
-    f = firstFailing nonzero? t
+    f = first_failing is_nonzero t
 
     by : Dec (f < length t) → any ≡ ltb f (length t)
-    by (yes l) = not-false any (scanned-all s h ∙ ne_eqb f (length t) (λ e. omega arith)) ∙ sym (lt-ltb f (length t) l)
-    by (no l) = not-true any (scanned-all s h ∙ eq-eqb f (length t) (omega (arith, first-within nonzero? t))) ∙ sym (le-ltb f (length t) (omega arith))
+    by (yes l) = not-false any (scanned_all s h ∙ ne_eqb f (length t) (λ e. omega arith)) ∙ sym (lt-ltb f (length t) l)
+    by (no l) = not-true any (scanned_all s h ∙ eq-eqb f (length t) (omega (arith, first-within is_nonzero t))) ∙ sym (le-ltb f (length t) (omega arith))
 
-pub nonzero-true : (x : ℕ) → x % q ≢ 0 → nonzero? x ≡ true
+pub nonzero-true : (x : ℕ) → x % q ≢ 0 → is_nonzero x ≡ true
 nonzero-true x h = ap not (ne_eqb (x % q) 0 h)
 
-pub nonzero-false : (x : ℕ) → x % q ≡ 0 → nonzero? x ≡ false
+pub nonzero-false : (x : ℕ) → x % q ≡ 0 → is_nonzero x ≡ false
 nonzero-false x h = ap not (eq-eqb (x % q) 0 h)
 
-pub true-nonzero : (x : ℕ) → nonzero? x ≡ true → x % q ≢ 0
+pub true-nonzero : (x : ℕ) → is_nonzero x ≡ true → x % q ≢ 0
 true-nonzero x h = eqb-false (x % q) 0 (not-true _ h)
 
 -- what its answer says
-pub no_zero : (t : List ℕ) → hasZero t ≡ false → (i : ℕ) → i < length t → get_or t i 0 % q ≢ 0
-unfolding hasZero
-no_zero t e i h = true-nonzero _ (first_passes nonzero? t (ltb-false _ _ e) i h)
+pub no_zero : (t : List ℕ) → has_zero t ≡ false → (i : ℕ) → i < length t → get_or t i 0 % q ≢ 0
+unfolding has_zero
+no_zero t e i h = true-nonzero _ (first_passes is_nonzero t (ltb-false _ _ e) i h)
 
-pub some-zero : (t : List ℕ) → hasZero t ≡ true → (i : ℕ) × (i < length t) × (get_or t i 0 % q ≡ 0)
-unfolding hasZero
+pub some-zero : (t : List ℕ) → has_zero t ≡ true → (i : ℕ) × (i < length t) × (get_or t i 0 % q ≡ 0)
+unfolding has_zero
 some-zero t e =
-    let h : firstFailing nonzero? t < length t = ltb-true _ _ e in
-    (firstFailing nonzero? t, h, eqb-true _ 0 (not-false _ (first-fails nonzero? t h)))
+    let h : first_failing is_nonzero t < length t = ltb-true _ _ e in
+    (first_failing is_nonzero t, h, eqb-true _ 0 (not-false _ (first-fails is_nonzero t h)))

@@ -2,14 +2,14 @@
 // Every word is taken as its residue modulo q.
 ghost use Rattle.std.specs.Prelude.{◌≡◌, ◌≤◌, length, drop};
 ghost use Rattle.ntt.specs.Spectrum.{degree};
-ghost use Rattle.reciprocals.specs.Reciprocals.{hasZero, reciprocalsOf, areReciprocals};
-ghost use Rattle.reciprocals.specs.Tree.{leavesOf, multipliedLevel, productsOf, invertedLevel, inversesOf};
+ghost use Rattle.reciprocals.specs.Reciprocals.{has_zero, reciprocals_of, are_reciprocals};
+ghost use Rattle.reciprocals.specs.Tree.{leaves_of, multiplied_level, products_of, inverted_level, inverses_of};
 
 use ntt::{DEGREE, Spectrum};
 
 // Whether q divides some entry: then there are no reciprocals. It looks at all of them, whatever it finds.
 pub fn has_zero(t: Spectrum) -> bool
-    ensures { result ≡ hasZero t }
+    ensures { result ≡ has_zero t }
 {
     let mut any = false;
     for j in 0..DEGREE {
@@ -22,7 +22,7 @@ pub fn has_zero(t: Spectrum) -> bool
 
 // Whether the entries of x and y are reciprocal to each other: every product of two is 1. It looks at all of them, whatever it finds.
 pub fn are_reciprocals(x: Spectrum, y: Spectrum) -> bool
-    ensures { result ≡ areReciprocals x y }
+    ensures { result ≡ are_reciprocals x y }
 {
     let mut all = true;
     for k in 0..DEGREE {
@@ -43,7 +43,7 @@ const TREE: usize = 2 * DEGREE;
 
 // The entries as the lowest level, under zeros.
 fn leaves(t: Spectrum) -> [u16; TREE]
-    ensures { result ≡ leavesOf t }
+    ensures { result ≡ leaves_of t }
 {
     let mut h = [0u16; TREE];
     for i in 0..DEGREE {
@@ -54,7 +54,7 @@ fn leaves(t: Spectrum) -> [u16; TREE]
 
 fn multiply_level(h: &mut [u16; TREE], m: usize)
     requires { (length h.old ≡ 2048) × (m ≤ 512) }
-    ensures { h.new ≡ multipliedLevel m h.old }
+    ensures { h.new ≡ multiplied_level m h.old }
 {
     for j in 0..m {
         let x = h[2 * m + j];
@@ -66,7 +66,7 @@ fn multiply_level(h: &mut [u16; TREE], m: usize)
 // Each entry above the leaves is the product of the two below it.
 fn products(h: &mut [u16; TREE])
     requires { length h.old ≡ 2048 }
-    ensures { h.new ≡ productsOf h.old }
+    ensures { h.new ≡ products_of h.old }
 {
     for k in 0..10usize {
         multiply_level(h, 1 << (9 - k));
@@ -76,7 +76,7 @@ fn products(h: &mut [u16; TREE])
 // An entry is x × y, so the reciprocal of x is that of the entry times y.
 fn invert_level(r: &mut [u16; TREE], h: &[u16; TREE], m: usize)
     requires { (length r.old ≡ 2048) × (m ≤ 512) }
-    ensures { r.new ≡ invertedLevel m h.now r.old }
+    ensures { r.new ≡ inverted_level m h.now r.old }
 {
     for j in 0..m {
         let u = r[m + j];
@@ -89,7 +89,7 @@ fn invert_level(r: &mut [u16; TREE], h: &[u16; TREE], m: usize)
 
 // The top's reciprocal is 0 where it has none, and then so are all.
 fn inverses(h: &[u16; TREE]) -> [u16; TREE]
-    ensures { result ≡ inversesOf h.now }
+    ensures { result ≡ inverses_of h.now }
 {
     let mut r = [0u16; TREE];
     r[1] = modq::reciprocal(h[1]);
@@ -112,7 +112,7 @@ fn lower_half(h: &[u16; TREE]) -> Spectrum
 
 // The reciprocal of every entry; 1,024 zeros where q divides one of them, since the top of the tree is then 0.
 pub fn reciprocals(t: Spectrum) -> Spectrum
-    ensures { result ≡ reciprocalsOf t }
+    ensures { result ≡ reciprocals_of t }
 {
     let mut h = leaves(t);
     products(&mut h);

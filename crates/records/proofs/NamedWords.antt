@@ -10,9 +10,9 @@ use lib.Dec.{eqb}
 use lib.ListN.{length}
 use borrow.Author.Tests.{eqb-false, ne_eqb}
 use Rattle.ring.specs.Ring.{q, n}
-use Rattle.encoding.specs.Words.{firstUnreduced}
-use Rattle.encoding.specs.Header.{hasMark, versionOf}
-use Rattle.encoding.proofs.Words.{length-elementOf, from-within, from_found, from-before, from-unique}
+use Rattle.encoding.specs.Words.{first_unreduced}
+use Rattle.encoding.specs.Header.{has_mark, version_of}
+use Rattle.encoding.proofs.Words.{length-element_of, from-within, from_found, from-before, from-unique}
 use Rattle.answers.specs.declared.KeyPart.{KeyPart}
 use Rattle.answers.specs.declared.KeyPart.TheVariants.{A, B}
 use Rattle.answers.specs.declared.KeyRecord.{KeyRecord}
@@ -24,56 +24,56 @@ use Rattle.answers.specs.declared.EncapsulationRecord.TheVariants.{SealedEntry, 
 use Rattle.answers.specs.declared.Refusal.{Refusal}
 use Rattle.answers.specs.declared.Answer.TheVariants.{Done}
 use Rattle.answers.specs.declared.Location.{Location}
-use Rattle.answers.specs.Answers.{refusalNumber, unless, andThen}
-use Rattle.answers.specs.Locations.{at, publicKey, seededPublicKey, secretKey, sealedEntry, encapsulation, aPart, bPart, storedInversePart, c1Part, c2Part}
-use Rattle.answers.specs.Locations.{inKeyPart, inKey, inEncapsulationPart, inEncapsulation, refusalLocation, Names}
-use Rattle.answers.proofs.AnswerLaws.{then-names, names-either}
-use Rattle.records.specs.Layout.{publicKeyMark, seededKeyMark, sealedEntryMark}
-use Rattle.records.specs.Records.{aWord, bWord, inverseWord, c1Word, c2Word, wordsAnswer, elementsAnswer, first_of, second_of, recordAnswer}
-use Rattle.records.specs.Records.{publicFrontAnswer, sealedEntryAnswer, seededB, seededRecordAnswer, c1Of, c2Of, encapsulationAnswer}
+use Rattle.answers.specs.Answers.{refusal_number, unless, and_then}
+use Rattle.answers.specs.Locations.{at, public_key, seeded_public_key, secret_key, sealed_entry, encapsulation, a_part, b_part, stored_inverse_part, c1_part, c2_part}
+use Rattle.answers.specs.Locations.{in_key_part, in_key, in_encapsulation_part, in_encapsulation, refusal_location, Names}
+use Rattle.answers.proofs.AnswerLaws.{then_names, names_either}
+use Rattle.records.specs.Layout.{public_key_mark, seeded_key_mark, sealed_entry_mark}
+use Rattle.records.specs.Records.{a_word, b_word, inverse_word, c1_word, c2_word, words_answer, elements_answer, first_of, second_of, record_answer}
+use Rattle.records.specs.Records.{public_front_answer, sealed_entry_answer, seeded_b, seeded_record_answer, c1_of, c2_of, encapsulation_answer}
 use Rattle.records.specs.Named.{FirstUnreduced, Named, NamedInTwo, NamedInThree}
-use Rattle.records.proofs.RecordLaws.{header-done, header-never, words-done, elements-done}
+use Rattle.records.proofs.RecordLaws.{header-done, header_never, words-done, elements-done}
 
 -- the refusal of word i has number k and names word i of part p of a record of kind r
 pub record WordOf (k r p : ℕ) (word : ℕ → Refusal) : Type 0 where
-  pub numbered : (i : ℕ) → refusalNumber (word i) ≡ k
-  pub located : (i : ℕ) → refusalLocation (word i) ≡ at r p i
+  pub numbered : (i : ℕ) → refusal_number (word i) ≡ k
+  pub located : (i : ℕ) → refusal_location (word i) ≡ at r p i
 
-pub a_word : (key : KeyPart → KeyRecord) {r : ℕ} → ((p : KeyPart) → inKey (key p) ≡ inKeyPart r p) → WordOf 4 r aPart (aWord key)
-a_word key kind = record { numbered = λ i. refl; located = λ i. kind (A i) }
+pub a_word_lem : (key : KeyPart → KeyRecord) {r : ℕ} → ((p : KeyPart) → in_key (key p) ≡ in_key_part r p) → WordOf 4 r a_part (a_word key)
+a_word_lem key kind = record { numbered = λ i. refl; located = λ i. kind (A i) }
 
-pub b-word : (key : KeyPart → KeyRecord) {r : ℕ} → ((p : KeyPart) → inKey (key p) ≡ inKeyPart r p) → WordOf 4 r bPart (bWord key)
-b-word key kind = record { numbered = λ i. refl; located = λ i. kind (B i) }
+pub b_word_lem : (key : KeyPart → KeyRecord) {r : ℕ} → ((p : KeyPart) → in_key (key p) ≡ in_key_part r p) → WordOf 4 r b_part (b_word key)
+b_word_lem key kind = record { numbered = λ i. refl; located = λ i. kind (B i) }
 
-pub inverse-word : WordOf 4 secretKey storedInversePart inverseWord
-inverse-word = record { numbered = λ i. refl; located = λ i. refl }
+pub inverse_word_lem : WordOf 4 secret_key stored_inverse_part inverse_word
+inverse_word_lem = record { numbered = λ i. refl; located = λ i. refl }
 
-pub c1-word : (holder : EncapsulationPart → EncapsulationRecord) {r : ℕ} → ((p : EncapsulationPart) → inEncapsulation (holder p) ≡ inEncapsulationPart r p)
-    → WordOf 11 r c1Part (c1Word holder)
-c1-word holder kind = record { numbered = λ i. refl; located = λ i. kind (C1 i) }
+pub c1_word_lem : (holder : EncapsulationPart → EncapsulationRecord) {r : ℕ} → ((p : EncapsulationPart) → in_encapsulation (holder p) ≡ in_encapsulation_part r p)
+    → WordOf 11 r c1_part (c1_word holder)
+c1_word_lem holder kind = record { numbered = λ i. refl; located = λ i. kind (C1 i) }
 
-pub c2-word : (holder : EncapsulationPart → EncapsulationRecord) {r : ℕ} → ((p : EncapsulationPart) → inEncapsulation (holder p) ≡ inEncapsulationPart r p)
-    → WordOf 11 r c2Part (c2Word holder)
-c2-word holder kind = record { numbered = λ i. refl; located = λ i. kind (C2 i) }
+pub c2_word_lem : (holder : EncapsulationPart → EncapsulationRecord) {r : ℕ} → ((p : EncapsulationPart) → in_encapsulation (holder p) ≡ in_encapsulation_part r p)
+    → WordOf 11 r c2_part (c2_word holder)
+c2_word_lem holder kind = record { numbered = λ i. refl; located = λ i. kind (C2 i) }
 
 -- ---- one element
 
-found_first : (words : List ℕ) → length words ≡ n → ¬ (firstUnreduced words ≡ n) → FirstUnreduced words (firstUnreduced words)
+found_first : (words : List ℕ) → length words ≡ n → ¬ (first_unreduced words ≡ n) → FirstUnreduced words (first_unreduced words)
 found_first words size some =
-    let within : firstUnreduced words < n = omega (arith, from-within q words, some) in record {
+    let within : first_unreduced words < n = omega (arith, from-within q words, some) in record {
       within = within;
       before = from-before q words;
       here = from_found q words (omega arith);
     }
 
 module _ {k r p : ℕ} {word : ℕ → Refusal} (some : 0 < k) (of : WordOf k r p word) where
-  pub words-named : (words : List ℕ) (l : Location) → length words ≡ n
-      → Names k l (wordsAnswer word words) ↔ Named r p words l
-  unfolding wordsAnswer
-  words-named words l size = (λ e. to (eqb place n) refl e, λ (i, e, first). from i e first)
+  pub words_named : (words : List ℕ) (l : Location) → length words ≡ n
+      → Names k l (words_answer word words) ↔ Named r p words l
+  unfolding words_answer
+  words_named words l size = (λ e. to (eqb place n) refl e, λ (i, e, first). from i e first)
     where
       place : ℕ
-      place = firstUnreduced words
+      place = first_unreduced words
 
       to : (t : Bool) → eqb place n ≡ t → Names k l (unless t (word place) Done) → Named r p words l
       to true passed (e, f) = absurd (omega arith)
@@ -87,65 +87,65 @@ module _ {k r p : ℕ} {word : ℕ → Refusal} (some : 0 < k) (of : WordOf k r 
 
 -- ---- two elements
 
-pub either-iff : {A B C D : Type 0} → A ↔ C → B ↔ D → (A ⊎ B) ↔ (C ⊎ D)
-either-iff f g = (⊎_map f.0 g.0, ⊎_map f.1 g.1)
+pub either_iff : {A B C D : Type 0} → A ↔ C → B ↔ D → (A ⊎ B) ↔ (C ⊎ D)
+either_iff f g = (⊎_map f.0 g.0, ⊎_map f.1 g.1)
 
-pub elements-named : {k r p p' : ℕ} {one other : ℕ → Refusal} → 0 < k → WordOf k r p one → WordOf k r p' other
+pub elements_named : {k r p p' : ℕ} {one other : ℕ → Refusal} → 0 < k → WordOf k r p one → WordOf k r p' other
     → (first second : List ℕ) (l : Location) → length first ≡ n → length second ≡ n
-    → Names k l (elementsAnswer one other first second) ↔ NamedInTwo r p p' first second l
-unfolding elementsAnswer
-elements-named {one = one} some of_one of_other first second l h1 h2 =
-    Iff.trans (names-either _ _ some)
-    (either-iff (words-named some of_one first l h1) (Iff.and (words-done one first h1) (words-named some of_other second l h2)))
+    → Names k l (elements_answer one other first second) ↔ NamedInTwo r p p' first second l
+unfolding elements_answer
+elements_named {one = one} some of_one of_other first second l h1 h2 =
+    Iff.trans (names_either _ _ some)
+    (either_iff (words_named some of_one first l h1) (Iff.and (words-done one first h1) (words_named some of_other second l h2)))
 
 -- and a third
-pub three-named : {k r p p' p'' : ℕ} {one other last : ℕ → Refusal} → 0 < k → WordOf k r p one → WordOf k r p' other → WordOf k r p'' last
+pub three_named : {k r p p' p'' : ℕ} {one other last : ℕ → Refusal} → 0 < k → WordOf k r p one → WordOf k r p' other → WordOf k r p'' last
     → (first second third : List ℕ) (l : Location) → length first ≡ n → length second ≡ n → length third ≡ n
-    → Names k l (andThen (elementsAnswer one other first second) (wordsAnswer last third)) ↔ NamedInThree r p p' p'' first second third l
-three-named {one = one} {other = other} some of_one of_other of-last first second third l h1 h2 h3 =
-    Iff.trans (names-either _ _ some)
-    (either-iff (elements-named some of_one of_other first second l h1 h2)
-    (Iff.trans (Iff.and (elements-done one other first second h1 h2) (words-named some of-last third l h3))
+    → Names k l (and_then (elements_answer one other first second) (words_answer last third)) ↔ NamedInThree r p p' p'' first second third l
+three_named {one = one} {other = other} some of_one of_other of-last first second third l h1 h2 h3 =
+    Iff.trans (names_either _ _ some)
+    (either_iff (elements_named some of_one of_other first second l h1 h2)
+    (Iff.trans (Iff.and (elements-done one other first second h1 h2) (words_named some of-last third l h3))
     (λ ((e1, e2), named). (e1, e2, named), λ (e1, e2, named). ((e1, e2), named))))
 
 -- ---- records
 
 -- mark and version pass, and then a word is named
-pub record-named : {k r p p' : ℕ} {one other : ℕ → Refusal} → 3 < k → WordOf k r p one → WordOf k r p' other
+pub record_named : {k r p p' : ℕ} {one other : ℕ → Refusal} → 3 < k → WordOf k r p one → WordOf k r p' other
     → (mark : List ℕ) (version : ℕ) (bytes : List ℕ) (l : Location)
-    → Names k l (recordAnswer mark version one other bytes)
-    ↔ ((hasMark mark bytes ≡ true) × (versionOf bytes ≡ version) × NamedInTwo r p p' (first_of bytes) (second_of bytes) l)
-unfolding recordAnswer
-record-named h of_one of_other mark version bytes l =
+    → Names k l (record_answer mark version one other bytes)
+    ↔ ((has_mark mark bytes ≡ true) × (version_of bytes ≡ version) × NamedInTwo r p p' (first_of bytes) (second_of bytes) l)
+unfolding record_answer
+record_named h of_one of_other mark version bytes l =
     Iff.trans
-    (Iff.trans (then-names _ (header-never (omega arith) mark version bytes))
+    (Iff.trans (then_names _ (header_never (omega arith) mark version bytes))
     (Iff.and (header-done mark version bytes)
-    (elements-named (omega arith) of_one of_other (first_of bytes) (second_of bytes) l (length-elementOf _) (length-elementOf _))))
+    (elements_named (omega arith) of_one of_other (first_of bytes) (second_of bytes) l (length-element_of _) (length-element_of _))))
     (λ ((m, v), named). (m, v, named), λ (m, v, named). ((m, v), named))
 
-pub seeded-named : (bytes : List ℕ) (l : Location)
-    → Names 4 l (seededRecordAnswer bytes) ↔ ((hasMark seededKeyMark bytes ≡ true) × (versionOf bytes ≡ 1) × Named seededPublicKey bPart (seededB bytes) l)
-unfolding seededRecordAnswer
-seeded-named bytes l =
+pub seeded_named : (bytes : List ℕ) (l : Location)
+    → Names 4 l (seeded_record_answer bytes) ↔ ((has_mark seeded_key_mark bytes ≡ true) × (version_of bytes ≡ 1) × Named seeded_public_key b_part (seeded_b bytes) l)
+unfolding seeded_record_answer
+seeded_named bytes l =
     Iff.trans
-    (Iff.trans (then-names _ (header-never (omega arith) seededKeyMark 1 bytes))
-    (Iff.and (header-done seededKeyMark 1 bytes) (words-named (omega arith) (b-word SeededPublicKey (λ p. refl)) (seededB bytes) l (length-elementOf _))))
+    (Iff.trans (then_names _ (header_never (omega arith) seeded_key_mark 1 bytes))
+    (Iff.and (header-done seeded_key_mark 1 bytes) (words_named (omega arith) (b_word_lem SeededPublicKey (λ p. refl)) (seeded_b bytes) l (length-element_of _))))
     (λ ((m, v), named). (m, v, named), λ (m, v, named). ((m, v), named))
 
 -- header and words of each record
 abbrev Behind : (mark bytes : List ℕ) → Type 0 → Type 0
-Behind mark bytes named = (hasMark mark bytes ≡ true) × (versionOf bytes ≡ 1) × named
+Behind mark bytes named = (has_mark mark bytes ≡ true) × (version_of bytes ≡ 1) × named
 
-pub public-front-named : (bytes : List ℕ) (l : Location)
-    → Names 4 l (publicFrontAnswer bytes) ↔ Behind publicKeyMark bytes (NamedInTwo publicKey aPart bPart (first_of bytes) (second_of bytes) l)
-public-front-named bytes l = record-named (omega arith) (a_word PublicKey (λ p. refl)) (b-word PublicKey (λ p. refl)) publicKeyMark 1 bytes l
+pub public-front_named : (bytes : List ℕ) (l : Location)
+    → Names 4 l (public_front_answer bytes) ↔ Behind public_key_mark bytes (NamedInTwo public_key a_part b_part (first_of bytes) (second_of bytes) l)
+public-front_named bytes l = record_named (omega arith) (a_word_lem PublicKey (λ p. refl)) (b_word_lem PublicKey (λ p. refl)) public_key_mark 1 bytes l
 
-pub sealed-entry-named : (bytes : List ℕ) (l : Location)
-    → Names 11 l (sealedEntryAnswer bytes) ↔ Behind sealedEntryMark bytes (NamedInTwo sealedEntry c1Part c2Part (first_of bytes) (second_of bytes) l)
-sealed-entry-named bytes l = record-named (omega arith) (c1-word SealedEntry (λ p. refl)) (c2-word SealedEntry (λ p. refl)) sealedEntryMark 1 bytes l
+pub sealed_entry_named : (bytes : List ℕ) (l : Location)
+    → Names 11 l (sealed_entry_answer bytes) ↔ Behind sealed_entry_mark bytes (NamedInTwo sealed_entry c1_part c2_part (first_of bytes) (second_of bytes) l)
+sealed_entry_named bytes l = record_named (omega arith) (c1_word_lem SealedEntry (λ p. refl)) (c2_word_lem SealedEntry (λ p. refl)) sealed_entry_mark 1 bytes l
 
-pub encapsulation-named : (bytes : List ℕ) (l : Location)
-    → Names 11 l (encapsulationAnswer bytes) ↔ NamedInTwo encapsulation c1Part c2Part (c1Of bytes) (c2Of bytes) l
-encapsulation-named bytes l =
-    elements-named (omega arith) (c1-word Encapsulation (λ p. refl)) (c2-word Encapsulation (λ p. refl)) (c1Of bytes) (c2Of bytes) l
-    (length-elementOf _) (length-elementOf _)
+pub encapsulation_named : (bytes : List ℕ) (l : Location)
+    → Names 11 l (encapsulation_answer bytes) ↔ NamedInTwo encapsulation c1_part c2_part (c1_of bytes) (c2_of bytes) l
+encapsulation_named bytes l =
+    elements_named (omega arith) (c1_word_lem Encapsulation (λ p. refl)) (c2_word_lem Encapsulation (λ p. refl)) (c1_of bytes) (c2_of bytes) l
+    (length-element_of _) (length-element_of _)

@@ -3,13 +3,13 @@ use Rattle.answers.specs.declared.Refusal.{Refusal}
 use Rattle.answers.specs.declared.Answer.{Answer}
 use Rattle.records.specs.declared.Places.{Places}
 use Rattle.records.specs.declared.Elements.{Elements}
-use Rattle.answers.specs.Answers.{andThen}
-use Rattle.records.specs.Records.{placeAnswer}
+use Rattle.answers.specs.Answers.{and_then}
+use Rattle.records.specs.Records.{place_answer}
 
 -- the words of two elements
-abbrev pub placesAnswer : (at : Places) (one other : Refusal) → Answer
-placesAnswer at one other = andThen (placeAnswer at.first one) (placeAnswer at.second other)
+abbrev pub places_answer : (at : Places) (one other : Refusal) → Answer
+places_answer at one other = and_then (place_answer at.first one) (place_answer at.second other)
 
 -- 2, 3, then 4 or 11 of a front
-abbrev pub frontOf : (read : Elements) (one other : Refusal) → Answer
-frontOf read one other = andThen read.header (placesAnswer read.unreduced one other)
+abbrev pub front_of : (read : Elements) (one other : Refusal) → Answer
+front_of read one other = and_then read.header (places_answer read.unreduced one other)

@@ -3,10 +3,10 @@
 // the other records.
 // The calls test every length first, so the functions here are lent buffers of the record's length.
 ghost use Rattle.std.specs.Prelude.{◌≡◌, ◌++◌, ◌≤◌, length, drop};
-ghost use Rattle.encoding.specs.Words.{firstUnreduced};
-ghost use Rattle.records.specs.Layout.{publicKeyLength, secretKeyLength, thirdPlace};
-ghost use Rattle.records.specs.Records.{headerAnswer, placeAnswer, codesAnswer, first_of, second_of, recordBytes, publicKeyBytes, secretKeyBytes};
-ghost use Rattle.records.specs.Read.{placesAnswer, frontOf};
+ghost use Rattle.encoding.specs.Words.{first_unreduced};
+ghost use Rattle.records.specs.Layout.{public_key_length, secret_key_length, third_place};
+ghost use Rattle.records.specs.Records.{header_answer, place_answer, codes_answer, first_of, second_of, record_bytes, public_key_bytes, secret_key_bytes};
+ghost use Rattle.records.specs.Read.{places_answer, front_of};
 
 use answers::{Answer, Refusal};
 use encoding::{ELEMENT_LENGTH, HEADER_LENGTH, MARK_LENGTH, TERNARY_LENGTH};
@@ -65,7 +65,7 @@ pub const TRIPLE_LENGTH: usize = 3 * TERNARY_LENGTH;
 
 // Mark and version.
 pub fn check_header(bytes: &[u8], mark: [u8; MARK_LENGTH], version: u16) -> Answer
-    ensures { result ≡ headerAnswer mark version bytes.now }
+    ensures { result ≡ header_answer mark version bytes.now }
 {
     if !encoding::has_mark(bytes, mark) {
         return Answer::Refused(Refusal::WrongMark);
@@ -78,7 +78,7 @@ pub fn check_header(bytes: &[u8], mark: [u8; MARK_LENGTH], version: u16) -> Answ
 
 // What an element's words are answered by, from the place of its first that is q or more; `refusal` names that word.
 pub fn place_answer(place: usize, refusal: Refusal) -> Answer
-    ensures { result ≡ placeAnswer place refusal }
+    ensures { result ≡ place_answer place refusal }
 {
     answers::unless(place == DEGREE, refusal)
 }
@@ -92,7 +92,7 @@ pub struct Places {
 
 // What the words of both are answered by; `first` and `second` name the words at these places.
 pub fn places_answer(unreduced: Places, first: Refusal, second: Refusal) -> Answer
-    ensures { result ≡ placesAnswer unreduced first second }
+    ensures { result ≡ places_answer unreduced first second }
 {
     let one = place_answer(unreduced.first, first);
     let other = place_answer(unreduced.second, second);
@@ -101,7 +101,7 @@ pub fn places_answer(unreduced: Places, first: Refusal, second: Refusal) -> Answ
 
 // Whether no code is 3.
 pub fn check_codes(bytes: &[u8]) -> Answer
-    ensures { result ≡ codesAnswer bytes.now }
+    ensures { result ≡ codes_answer bytes.now }
 {
     answers::unless(
         encoding::first_invalid_code(bytes) == DEGREE,
@@ -121,9 +121,9 @@ pub struct Pair {
 
 // Those of a public key, or of the front of a secret key or of a sealed entry.
 pub fn read_pair(bytes: &[u8]) -> Pair
-    requires { thirdPlace ≤ length bytes.now }
+    requires { third_place ≤ length bytes.now }
     ensures first_value { (result.first ≡ first_of bytes.now) × (result.second ≡ second_of bytes.now) }
-    ensures first_value_2 { (result.unreduced.first ≡ firstUnreduced (first_of bytes.now)) × (result.unreduced.second ≡ firstUnreduced (second_of bytes.now)) }
+    ensures first_value_2 { (result.unreduced.first ≡ first_unreduced (first_of bytes.now)) × (result.unreduced.second ≡ first_unreduced (second_of bytes.now)) }
 {
     let first = encoding::decode_element(&bytes[FIRST..SECOND]);
     let second = encoding::decode_element(&bytes[SECOND..THIRD]);
@@ -148,10 +148,10 @@ pub struct Elements {
 
 // A public key, or the front of a sealed entry.
 pub fn read_record(bytes: &[u8], mark: [u8; MARK_LENGTH], version: u16) -> Elements
-    requires { thirdPlace ≤ length bytes.now }
-    ensures header_value { result.header ≡ headerAnswer mark version bytes.now }
+    requires { third_place ≤ length bytes.now }
+    ensures header_value { result.header ≡ header_answer mark version bytes.now }
     ensures first_value { (result.first ≡ first_of bytes.now) × (result.second ≡ second_of bytes.now) }
-    ensures first_value_2 { (result.unreduced.first ≡ firstUnreduced (first_of bytes.now)) × (result.unreduced.second ≡ firstUnreduced (second_of bytes.now)) }
+    ensures first_value_2 { (result.unreduced.first ≡ first_unreduced (first_of bytes.now)) × (result.unreduced.second ≡ first_unreduced (second_of bytes.now)) }
 {
     let read = read_pair(bytes);
     let first = read.first;
@@ -167,7 +167,7 @@ pub fn read_record(bytes: &[u8], mark: [u8; MARK_LENGTH], version: u16) -> Eleme
 
 // What the checks of a record's front answer: mark, version, then words, which `first` and `second` name.
 pub fn front_answer(read: Elements, first: Refusal, second: Refusal) -> Answer
-    ensures { result ≡ frontOf read first second }
+    ensures { result ≡ front_of read first second }
 {
     let header = read.header;
     let unreduced = read.unreduced;
@@ -185,8 +185,8 @@ pub fn write_record(
     second: Element,
     out: &mut [u8],
 )
-    requires { thirdPlace ≤ length out.old }
-    ensures { out.new ≡ recordBytes mark version first second ++ drop thirdPlace out.old }
+    requires { third_place ≤ length out.old }
+    ensures { out.new ≡ record_bytes mark version first second ++ drop third_place out.old }
 {
     encoding::encode_header(mark, version, &mut out[0..FIRST]);
     encoding::encode_element(first, &mut out[FIRST..SECOND]);
@@ -194,15 +194,15 @@ pub fn write_record(
 }
 
 pub fn write_public_key(a: Element, b: Element, out: &mut [u8])
-    requires { length out.old ≡ publicKeyLength }
-    ensures { out.new ≡ publicKeyBytes a b }
+    requires { length out.old ≡ public_key_length }
+    ensures { out.new ≡ public_key_bytes a b }
 {
     write_record(PUBLIC_KEY_MARK, 1, a, b, out);
 }
 
 pub fn write_secret_key(a: Element, b: Element, s: Element, out: &mut [u8])
-    requires { length out.old ≡ secretKeyLength }
-    ensures { out.new ≡ secretKeyBytes a b s }
+    requires { length out.old ≡ secret_key_length }
+    ensures { out.new ≡ secret_key_bytes a b s }
 {
     write_record(SECRET_KEY_MARK, SECRET_KEY_VERSION, a, b, out);
     encoding::encode_ternary(s, &mut out[THIRD..SECRET_KEY_LENGTH]);

@@ -1,8 +1,8 @@
 // Openings of what was read: a secret key, from whatever source, an encapsulation, bare or of a sealed entry or a batch, and a dummy. Every
 // answer is worked out before they are joined in document 01's order; where no triple is found the triple is zeros.
 ghost use Rattle.std.specs.Prelude.{◌≡◌, ◌++◌, ◌%◌, length};
-ghost use Rattle.ntt.specs.Factors.{forwardFactors, backwardFactors};
-ghost use Rattle.recovery.specs.Outcomes.{asTriple, answered, outcomeBy, quotientsBy, decapsulatedBy, openedBy, tripleKey0};
+ghost use Rattle.ntt.specs.Factors.{forward_factors, backward_factors};
+ghost use Rattle.recovery.specs.Outcomes.{as_triple, answered, outcome_by, quotients_by, decapsulated_by, opened_by, triple_key0};
 
 use answers::{Answer, Refusal};
 use octets::BLOCK_LENGTH;
@@ -29,9 +29,9 @@ pub fn find_triple(
     forward: &[u16],
     backward: &[u16],
 ) -> Decapsulated
-    requires { (forward.now ≡ forwardFactors) × (backward.now ≡ backwardFactors) }
-    ensures answer_value { result.answer ≡ decapsulatedBy key.answer c.answer codes (outcomeBy key dummy c.c1 c.c2) }
-    ensures triple_value { asTriple result.triple ≡ answered (outcomeBy key dummy c.c1 c.c2) }
+    requires { (forward.now ≡ forward_factors) × (backward.now ≡ backward_factors) }
+    ensures answer_value { result.answer ≡ decapsulated_by key.answer c.answer codes (outcome_by key dummy c.c1 c.c2) }
+    ensures triple_value { as_triple result.triple ≡ answered (outcome_by key dummy c.c1 c.c2) }
 {
     let checked = key.answer;
     let a = key.a;
@@ -82,10 +82,10 @@ pub fn recover(
     forward: &[u16],
     backward: &[u16],
 ) -> Recovered
-    requires { (length front.now % 16 ≡ 0) × (forward.now ≡ forwardFactors) × (backward.now ≡ backwardFactors) }
-    ensures answer_value { result.answer ≡ openedBy key.answer c.answer (outcomeBy key dummy c.c1 c.c2) (front.now ++ body.now) tag }
-    ensures k0_value { result.k0 ≡ tripleKey0 (answered (outcomeBy key dummy c.c1 c.c2)) }
-    ensures quotients_value { result.quotients ≡ quotientsBy key dummy c.c1 c.c2 }
+    requires { (length front.now % 16 ≡ 0) × (forward.now ≡ forward_factors) × (backward.now ≡ backward_factors) }
+    ensures answer_value { result.answer ≡ opened_by key.answer c.answer (outcome_by key dummy c.c1 c.c2) (front.now ++ body.now) tag }
+    ensures k0_value { result.k0 ≡ triple_key0 (answered (outcome_by key dummy c.c1 c.c2)) }
+    ensures quotients_value { result.quotients ≡ quotients_by key dummy c.c1 c.c2 }
 {
     let checked = key.answer;
     let a = key.a;

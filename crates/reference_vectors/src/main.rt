@@ -3,8 +3,8 @@
 // remainders are worked through by ring_vectors, that of products in the tag's field by gf128_vectors.
 ghost use Rattle.std.specs.Prelude.{◌≡◌, ◌+◌, ◌≤◌};
 ghost use Rattle.vectors.specs.Answers.{report};
-ghost use Rattle.reference_vectors.specs.Cases.{lastField};
-ghost use Rattle.reference_vectors.specs.Cases.{residueOf, noiseAgrees?, lineAgrees?, deskAgrees?, agrees?, verdict};
+ghost use Rattle.reference_vectors.specs.Cases.{last_field};
+ghost use Rattle.reference_vectors.specs.Cases.{residue_of, noise_agrees, line_agrees, desk_agrees, agrees, verdict};
 
 use call_cases::Call;
 use key_cases::Source;
@@ -28,13 +28,13 @@ const Q: u64 = modq::Q as u64;
 
 // The coefficient of a small number in two's complement.
 fn residue(w: u32) -> u64
-    ensures { result ≡ residueOf w }
+    ensures { result ≡ residue_of w }
 {
     (w as u64 + Q) % 4294967296 % Q
 }
 
 fn noise_agrees(text: &[u8]) -> bool
-    ensures { result ≡ noiseAgrees? text.now }
+    ensures { result ≡ noise_agrees text.now }
 {
     let p = sampling::ternary(vectors::field(text, 0));
     (vectors::number(text, 1) == 0) & (p[0] as u64 == residue(vectors::number(text, 3)))
@@ -44,7 +44,7 @@ fn noise_agrees(text: &[u8]) -> bool
 
 // The line that the desk prints, without its line feed.
 fn line_agrees(text: &[u8]) -> bool
-    ensures { result ≡ lineAgrees? text.now }
+    ensures { result ≡ line_agrees text.now }
 {
     let line = desk_line::line(vectors::field(text, 0));
     let bytes = line.bytes;
@@ -54,7 +54,7 @@ fn line_agrees(text: &[u8]) -> bool
 
 // Number, location where the case tells one, and line. The desk prints no location, so a case may tell none.
 fn desk_agrees(text: &[u8]) -> bool
-    ensures { result ≡ deskAgrees? text.now }
+    ensures { result ≡ desk_agrees text.now }
 {
     let answer = desk_opening::answer(vectors::field(text, 0));
     let numbered = answers::number(answer) == vectors::number(text, 1);
@@ -66,7 +66,7 @@ fn desk_agrees(text: &[u8]) -> bool
 // ---- cases
 
 fn last_field(kind: Kind) -> usize
-    ensures { (result ≡ lastField kind) × (result ≤ 8) }
+    ensures { (result ≡ last_field kind) × (result ≤ 8) }
 {
     match kind {
         Kind::CheckSecretKey => 2,
@@ -80,7 +80,7 @@ fn last_field(kind: Kind) -> usize
 }
 
 fn agrees(kind: Kind, text: &[u8]) -> bool
-    ensures { result ≡ agrees? kind text.now }
+    ensures { result ≡ agrees kind text.now }
 {
     match kind {
         Kind::CheckSecretKey => key_cases::check_agrees(text),
@@ -104,7 +104,7 @@ fn judge(kind: Kind, text: &[u8]) -> Verdict
 }
 
 fn judge_cases(kind: Kind, text: &[u8]) -> Report
-    ensures { result ≡ report (verdict kind) (lastField kind + 1) text.now }
+    ensures { result ≡ report (verdict kind) (last_field kind + 1) text.now }
 {
     let fields = last_field(kind) + 1;
     let mut report = Report::Counts(0, 0);

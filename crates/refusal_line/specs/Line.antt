@@ -6,6 +6,6 @@ use Rattle.answers.specs.declared.Answer.TheVariants.{Done, Refused}
 use Rattle.answers.specs.Answers.{number}
 
 -- the number and a line feed; nothing under Done
-abbrev pub refusalLine : Answer → List ℕ
-refusalLine Done = []
-refusalLine (Refused r) = decimal (number (Refused r)) ++ (10 ∷ [])
+abbrev pub refusal_line : Answer → List ℕ
+refusal_line Done = []
+refusal_line (Refused r) = decimal (number (Refused r)) ++ (10 ∷ [])

@@ -2,7 +2,7 @@
 ghost use Rattle.std.specs.Prelude.{◌≡◌, ◌≤◌, length};
 ghost use Rattle.lists.specs.Table.{zeros};
 ghost use Rattle.text.specs.Text.{written};
-ghost use Rattle.refusal_line.specs.Line.{refusalLine};
+ghost use Rattle.refusal_line.specs.Line.{refusal_line};
 
 use answers::Answer;
 
@@ -15,8 +15,8 @@ pub struct Text {
 
 // Nothing under Done.
 pub fn line(answer: Answer) -> Text
-    ensures bytes_value { result.bytes ≡ written (refusalLine answer) (zeros 21) }
-    ensures length_value { (result.length ≡ length (refusalLine answer)) × (result.length ≤ 21) }
+    ensures bytes_value { result.bytes ≡ written (refusal_line answer) (zeros 21) }
+    ensures length_value { (result.length ≡ length (refusal_line answer)) × (result.length ≤ 21) }
 {
     let mut bytes = [0u8; 21];
     if let Answer::Done = answer {

@@ -9,7 +9,7 @@ use borrow.Author.Tests.{eqb-true, eq-eqb, lt-ltb, le-ltb}
 use mir.Syntax.{w32}
 use mir.Val.{SFits, to_z, of_z}
 use mir.ValLaws.{to_z_pos, to_z-of_z}
-use Rattle.remainder_cases.specs.Remainders.{signed, sameInteger?}
+use Rattle.remainder_cases.specs.Remainders.{signed, is_same_integer}
 
 pub signed_low : (x : ℕ) → x < 2147483648 → to_z w32 x ≡ signed x
 unfolding signed
@@ -37,29 +37,29 @@ module _ (x : ℕ) (high : 2147483648 ≤ x) where
 pub same_bits : (a b : ℤ) → SFits w32 a → SFits w32 b → of_z w32 a ≡ of_z w32 b → a ≡ b
 same_bits a b f g e = sym (to_z-of_z w32 a f) ∙ ap (to_z w32) e ∙ to_z-of_z w32 b g
 
-same-itself : (a : ℤ) → sameInteger? a a ≡ true
-unfolding sameInteger?
-same-itself (pos n) = eq-eqb n n refl
-same-itself (negsuc n) = eq-eqb n n refl
+same_itself : (a : ℤ) → is_same_integer a a ≡ true
+unfolding is_same_integer
+same_itself (pos n) = eq-eqb n n refl
+same_itself (negsuc n) = eq-eqb n n refl
 
-same-integer : (a b : ℤ) → sameInteger? a b ≡ true → a ≡ b
-unfolding sameInteger?
-same-integer (pos m) (pos n) e = ap pos (eqb-true m n e)
-same-integer (pos m) (negsuc n) e = absurd (false≢true e)
-same-integer (negsuc m) (pos n) e = absurd (false≢true e)
-same-integer (negsuc m) (negsuc n) e = ap negsuc (eqb-true m n e)
+same_integer : (a b : ℤ) → is_same_integer a b ≡ true → a ≡ b
+unfolding is_same_integer
+same_integer (pos m) (pos n) e = ap pos (eqb-true m n e)
+same_integer (pos m) (negsuc n) e = absurd (false≢true e)
+same_integer (negsuc m) (pos n) e = absurd (false≢true e)
+same_integer (negsuc m) (negsuc n) e = ap negsuc (eqb-true m n e)
 
 -- two integers are compared by their bits
-pub compared : (a b : ℤ) → SFits w32 a → SFits w32 b → eqb (of_z w32 a) (of_z w32 b) ≡ sameInteger? a b
-compared a b f g = by (eqb (of_z w32 a) (of_z w32 b)) refl (sameInteger? a b) refl
+pub compared : (a b : ℤ) → SFits w32 a → SFits w32 b → eqb (of_z w32 a) (of_z w32 b) ≡ is_same_integer a b
+compared a b f g = by (eqb (of_z w32 a) (of_z w32 b)) refl (is_same_integer a b) refl
   where
-    by : (r : Bool) → eqb (of_z w32 a) (of_z w32 b) ≡ r → (s : Bool) → sameInteger? a b ≡ s → r ≡ s
+    by : (r : Bool) → eqb (of_z w32 a) (of_z w32 b) ≡ r → (s : Bool) → is_same_integer a b ≡ s → r ≡ s
     by true p true q = refl
     by false p false q = refl
-    by true p false q = sym (same-itself b) ∙ ap (λ (z : ℤ). sameInteger? z b) (sym (same_bits a b f g (eqb-true _ _ p))) ∙ q
-    by false p true q = sym p ∙ eq-eqb _ _ (ap (of_z w32) (same-integer a b q))
+    by true p false q = sym (same_itself b) ∙ ap (λ (z : ℤ). is_same_integer z b) (sym (same_bits a b f g (eqb-true _ _ p))) ∙ q
+    by false p true q = sym p ∙ eq-eqb _ _ (ap (of_z w32) (same_integer a b q))
 
 -- the same of integers that went through their bits
-pub compared-as : {a b x y : ℤ} (r : Bool) → SFits w32 a → SFits w32 b → a ≡ x → b ≡ y
-    → r ≡ sameInteger? (to_z w32 (of_z w32 a)) (to_z w32 (of_z w32 b)) → r ≡ sameInteger? x y
-compared-as {a} {b} r f g p q e = e ∙ ap₂ sameInteger? (to_z-of_z w32 a f ∙ p) (to_z-of_z w32 b g ∙ q)
+pub compared_as : {a b x y : ℤ} (r : Bool) → SFits w32 a → SFits w32 b → a ≡ x → b ≡ y
+    → r ≡ is_same_integer (to_z w32 (of_z w32 a)) (to_z w32 (of_z w32 b)) → r ≡ is_same_integer x y
+compared_as {a} {b} r f g p q e = e ∙ ap₂ is_same_integer (to_z-of_z w32 a f ∙ p) (to_z-of_z w32 b g ∙ q)

@@ -1,6 +1,6 @@
 // When a case of a word's remainder agrees: its centred value, and the remainder and the quotient of that by 5.
 ghost use Rattle.std.specs.Prelude.{◌≡◌};
-ghost use Rattle.remainder_cases.specs.Remainders.{signed, sameInteger?, integersAgree?, remainderAgrees?};
+ghost use Rattle.remainder_cases.specs.Remainders.{signed, is_same_integer, integers_agree, remainder_agrees};
 
 // The integer that a word stands for in two's complement.
 fn signed(x: u32) -> i32
@@ -14,14 +14,14 @@ fn signed(x: u32) -> i32
 }
 
 fn same_integers(a: i32, b: i32) -> bool
-    ensures { result ≡ sameInteger? a b }
+    ensures { result ≡ is_same_integer a b }
 {
     a == b
 }
 
 // Of a word, its centred value m, the remainder r and the quotient k of m.
 fn integers_agree(w: u16, m: u32, r: u32, k: u32) -> bool
-    ensures { result ≡ integersAgree? w m r k }
+    ensures { result ≡ integers_agree w m r k }
 {
     let found = ring::centred(w);
     let d = ring::centred_division(found);
@@ -33,7 +33,7 @@ fn integers_agree(w: u16, m: u32, r: u32, k: u32) -> bool
 }
 
 pub fn remainder_agrees(text: &[u8]) -> bool
-    ensures { result ≡ remainderAgrees? text.now }
+    ensures { result ≡ remainder_agrees text.now }
 {
     let w = vectors::number(text, 0);
     if w >= 65536 {

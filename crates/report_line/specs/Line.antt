@@ -18,33 +18,33 @@ end_at at text buffer = min (at + length text) (length buffer)
 -- ---- texts
 
 -- `malformed at `, what is counted, and the place
-unfoldable pub malformedText : (what : List ℕ) (place : ℕ) → List ℕ
-malformedText what place = (109 ∷ 97 ∷ 108 ∷ 102 ∷ 111 ∷ 114 ∷ 109 ∷ 101 ∷ 100 ∷ 32 ∷ 97 ∷ 116 ∷ 32 ∷ []) ++ what ++ decimal place
+unfoldable pub malformed_text : (what : List ℕ) (place : ℕ) → List ℕ
+malformed_text what place = (109 ∷ 97 ∷ 108 ∷ 102 ∷ 111 ∷ 114 ∷ 109 ∷ 101 ∷ 100 ∷ 32 ∷ 97 ∷ 116 ∷ 32 ∷ []) ++ what ++ decimal place
 
 -- `byte ` and `line `
-abbrev pub byteName : List ℕ
-byteName = 98 ∷ 121 ∷ 116 ∷ 101 ∷ 32 ∷ []
+abbrev pub byte_name : List ℕ
+byte_name = 98 ∷ 121 ∷ 116 ∷ 101 ∷ 32 ∷ []
 
-abbrev pub lineName : List ℕ
-lineName = 108 ∷ 105 ∷ 110 ∷ 101 ∷ 32 ∷ []
+abbrev pub line_name : List ℕ
+line_name = 108 ∷ 105 ∷ 110 ∷ 101 ∷ 32 ∷ []
 
 -- N ` agreed, ` M ` differed`
-unfoldable pub countsText : (agreed differed : ℕ) → List ℕ
-countsText agreed differed =
+unfoldable pub counts_text : (agreed differed : ℕ) → List ℕ
+counts_text agreed differed =
     decimal agreed ++ (32 ∷ 97 ∷ 103 ∷ 114 ∷ 101 ∷ 101 ∷ 100 ∷ 44 ∷ 32 ∷ []) ++ decimal differed ++ (32 ∷ 100 ∷ 105 ∷ 102 ∷ 102 ∷ 101 ∷ 114 ∷ 101 ∷ 100 ∷ [])
 
 -- a file without a case is malformed from its start
-abbrev pub reportText : Report → List ℕ
-reportText (Counts agreed differed) = cond (eqb agreed 0 && eqb differed 0) (malformedText byteName 0) (countsText agreed differed)
-reportText (MalformedByte place) = malformedText byteName place
-reportText (MalformedLine place) = malformedText lineName place
+abbrev pub report_text : Report → List ℕ
+report_text (Counts agreed differed) = cond (eqb agreed 0 && eqb differed 0) (malformed_text byte_name 0) (counts_text agreed differed)
+report_text (MalformedByte place) = malformed_text byte_name place
+report_text (MalformedLine place) = malformed_text line_name place
 
 -- the report where the file was read; else `too long` or `missing`
-abbrev pub fileText : Contents → Report → List ℕ
-fileText (Bytes n) report = reportText report
-fileText TooLong report = 116 ∷ 111 ∷ 111 ∷ 32 ∷ 108 ∷ 111 ∷ 110 ∷ 103 ∷ []
-fileText Missing report = 109 ∷ 105 ∷ 115 ∷ 115 ∷ 105 ∷ 110 ∷ 103 ∷ []
+abbrev pub file_text : Contents → Report → List ℕ
+file_text (Bytes n) report = report_text report
+file_text TooLong report = 116 ∷ 111 ∷ 111 ∷ 32 ∷ 108 ∷ 111 ∷ 110 ∷ 103 ∷ []
+file_text Missing report = 109 ∷ 105 ∷ 115 ∷ 115 ∷ 105 ∷ 110 ∷ 103 ∷ []
 
 -- the name, `: `, the text, and a line feed
-unfoldable pub fileLine : (name : List ℕ) → Contents → Report → List ℕ
-fileLine name read report = name ++ (58 ∷ 32 ∷ []) ++ fileText read report ++ (10 ∷ [])
+unfoldable pub file_line : (name : List ℕ) → Contents → Report → List ℕ
+file_line name read report = name ++ (58 ∷ 32 ∷ []) ++ file_text read report ++ (10 ∷ [])

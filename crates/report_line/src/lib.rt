@@ -3,7 +3,7 @@
 ghost use Rattle.std.specs.Prelude.{◌≡◌, ◌≤◌, min, length};
 ghost use Rattle.lists.specs.Table.{zeros};
 ghost use Rattle.text.specs.Text.{written};
-ghost use Rattle.report_line.specs.Line.{put_at, end_at, malformedText, countsText, reportText, fileText, fileLine};
+ghost use Rattle.report_line.specs.Line.{put_at, end_at, malformed_text, counts_text, report_text, file_text, file_line};
 
 use libc::STDOUT_FILENO;
 use vectors::{Contents, Report};
@@ -12,8 +12,8 @@ use vectors::{Contents, Report};
 
 fn put_malformed(out: &mut [u8], at: usize, what: &[u8], place: u64) -> usize
     requires { at ≤ length out.old }
-    ensures value { result ≡ end_at at (malformedText what.now place) out.old }
-    ensures out_after { out.new ≡ put_at at (malformedText what.now place) out.old }
+    ensures value { result ≡ end_at at (malformed_text what.now place) out.old }
+    ensures out_after { out.new ≡ put_at at (malformed_text what.now place) out.old }
 {
     let a = text::put(out, at, b"malformed at ");
     let b = text::put(out, a, what);
@@ -22,8 +22,8 @@ fn put_malformed(out: &mut [u8], at: usize, what: &[u8], place: u64) -> usize
 
 fn put_counts(out: &mut [u8], at: usize, agreed: u64, differed: u64) -> usize
     requires { at ≤ length out.old }
-    ensures value { result ≡ end_at at (countsText agreed differed) out.old }
-    ensures out_after { out.new ≡ put_at at (countsText agreed differed) out.old }
+    ensures value { result ≡ end_at at (counts_text agreed differed) out.old }
+    ensures out_after { out.new ≡ put_at at (counts_text agreed differed) out.old }
 {
     let a = text::put_decimal(out, at, agreed);
     let b = text::put(out, a, b" agreed, ");
@@ -33,8 +33,8 @@ fn put_counts(out: &mut [u8], at: usize, agreed: u64, differed: u64) -> usize
 
 fn put_report(out: &mut [u8], at: usize, report: Report) -> usize
     requires { at ≤ length out.old }
-    ensures value { result ≡ end_at at (reportText report) out.old }
-    ensures out_after { out.new ≡ put_at at (reportText report) out.old }
+    ensures value { result ≡ end_at at (report_text report) out.old }
+    ensures out_after { out.new ≡ put_at at (report_text report) out.old }
 {
     match report {
         Report::Counts(agreed, differed) => {
@@ -51,8 +51,8 @@ fn put_report(out: &mut [u8], at: usize, report: Report) -> usize
 
 fn put_file(out: &mut [u8], at: usize, read: Contents, report: Report) -> usize
     requires { at ≤ length out.old }
-    ensures value { result ≡ end_at at (fileText read report) out.old }
-    ensures out_after { out.new ≡ put_at at (fileText read report) out.old }
+    ensures value { result ≡ end_at at (file_text read report) out.old }
+    ensures out_after { out.new ≡ put_at at (file_text read report) out.old }
 {
     match read {
         Contents::Bytes(_) => put_report(out, at, report),
@@ -72,8 +72,8 @@ pub struct Text {
 
 // The line of a file. It is cut where there is no room, which is only with a name of more than 195 bytes.
 pub fn line(name: &[u8], read: Contents, report: Report) -> Text
-    ensures bytes_value { result.bytes ≡ written (fileLine name.now read report) (zeros 256) }
-    ensures length_value { result.length ≡ min (length (fileLine name.now read report)) 256 }
+    ensures bytes_value { result.bytes ≡ written (file_line name.now read report) (zeros 256) }
+    ensures length_value { result.length ≡ min (length (file_line name.now read report)) 256 }
 {
     let mut bytes = [0u8; 256];
     let a = text::put(&mut bytes, 0, name);

@@ -5,47 +5,47 @@ use mathlib.Core.List.{List, [], ◌∷◌}
 use Prim.Native.Nat.{ℕ, ◌-◌, ◌<◌}
 use native.Mathlib.Omega.{arith}
 use lib.ListN.{length, take, length-take}
-use Rattle.lists.specs.First.{firstFailing}
-use Rattle.response_files.specs.Lines.{afterLine, line_of, value_of, isBlank, lines}
-use Rattle.response_files.specs.Fields.{decimalOf, wholeBytes}
+use Rattle.lists.specs.First.{first_failing}
+use Rattle.response_files.specs.Lines.{after_line, line_of, value_of, is_blank, lines}
+use Rattle.response_files.specs.Fields.{decimal_of, whole_bytes}
 use Rattle.response_files.specs.declared.Number.TheVariants.{Missing}
-use Rattle.response_files.specs.Headers.{isRemark, isPreamble, lengthHeader, numberOr, bodyFrom, numberFrom}
+use Rattle.response_files.specs.Headers.{is_remark, is_preamble, length_header, number_or, body_from, number_from}
 use Rattle.response_files.proofs.Lines.{lines_more}
-use Rattle.response_files.proofs.Numbers.{decimal-none}
+use Rattle.response_files.proofs.Numbers.{decimal_none}
 
-pub remark-none : (line : List ℕ) → length line ≡ 0 → isRemark line ≡ false
-unfolding isRemark
-remark-none [] h = refl
-remark-none (c ∷ line) h = absurd (omega arith)
+pub remark_none : (line : List ℕ) → length line ≡ 0 → is_remark line ≡ false
+unfolding is_remark
+remark_none [] h = refl
+remark_none (c ∷ line) h = absurd (omega arith)
 
 -- a line without the name gives no number
-pub header-none : (name text : List ℕ) → length (value_of name text) ≡ 0 → lengthHeader name text ≡ Missing
-header-none name text h = by (value_of name text) h
+pub header_none : (name text : List ℕ) → length (value_of name text) ≡ 0 → length_header name text ≡ Missing
+header_none name text h = by (value_of name text) h
   where
-    by : (v : List ℕ) → length v ≡ 0 → wholeBytes (decimalOf (take (length v - 1) v)) ≡ Missing
-    by v e = rw (decimal-none (take (length v - 1) v) (omega (arith, length-take (length v - 1) v)))
+    by : (v : List ℕ) → length v ≡ 0 → whole_bytes (decimal_of (take (length v - 1) v)) ≡ Missing
+    by v e = rw (decimal_none (take (length v - 1) v) (omega (arith, length-take (length v - 1) v)))
 
-pub preamble-some : (text : List ℕ) → isPreamble text ≡ true → 0 < length text
-unfolding isPreamble isBlank isRemark line_of firstFailing
+pub preamble-some : (text : List ℕ) → is_preamble text ≡ true → 0 < length text
+unfolding is_preamble is_blank is_remark line_of first_failing
 preamble-some [] e = absurd (false≢true e)
 preamble-some (c ∷ text) e = omega arith
 
-module _ (text : List ℕ) (e : isPreamble text ≡ true) where
-  pub body_more : bodyFrom (lines text) ≡ bodyFrom (lines (afterLine text))
-  unfolding bodyFrom
+module _ (text : List ℕ) (e : is_preamble text ≡ true) where
+  pub body_more : body_from (lines text) ≡ body_from (lines (after_line text))
+  unfolding body_from
   body_more = rw (lines_more text (preamble-some text e), e)
 
   pub number_more : (name : List ℕ) (number : ℕ)
-      → numberFrom name number (lines text) ≡ numberFrom name (numberOr (lengthHeader name text) number) (lines (afterLine text))
-  unfolding numberFrom
+      → number_from name number (lines text) ≡ number_from name (number_or (length_header name text) number) (lines (after_line text))
+  unfolding number_from
   number_more name number = rw (lines_more text (preamble-some text e), e)
 
-pub body-here : (text : List ℕ) → isPreamble text ≡ false → bodyFrom (lines text) ≡ text
-unfolding bodyFrom lines
+pub body-here : (text : List ℕ) → is_preamble text ≡ false → body_from (lines text) ≡ text
+unfolding body_from lines
 body-here [] e = refl
 body-here (c ∷ text) e = rw e
 
-pub number-here : (text : List ℕ) → isPreamble text ≡ false → (name : List ℕ) (number : ℕ) → numberFrom name number (lines text) ≡ number
-unfolding numberFrom lines
+pub number-here : (text : List ℕ) → is_preamble text ≡ false → (name : List ℕ) (number : ℕ) → number_from name number (lines text) ≡ number
+unfolding number_from lines
 number-here [] e name number = refl
 number-here (c ∷ text) e name number = rw e

@@ -8,53 +8,53 @@ use lib.Dec.{ltb, leb, eqb}
 use lib.ListN.{length, take}
 use lib.Seq.{take_all, take-append-le}
 use borrow.Author.Tests.{ltb-true, leb-true, eqb-true, lt-ltb, le-leb, eq-eqb}
-use Rattle.lists.specs.First.{firstFailing}
+use Rattle.lists.specs.First.{first_failing}
 use Rattle.lists.proofs.Both.{both}
 use Rattle.lists.proofs.Scan.{first-within}
-use Rattle.hex.specs.Hex.{isDigit, bytes_of, decoded, written}
-use Rattle.hex.proofs.Text.{length-bytes, length-decoded}
-use Rattle.response_files.specs.Fields.{isHex}
+use Rattle.hexadecimal.specs.Hex.{is_digit, bytes_of, decoded, written}
+use Rattle.hexadecimal.proofs.Text.{length-bytes, length-decoded}
+use Rattle.response_files.specs.Fields.{is_hex}
 use Rattle.response_files.proofs.Lines.{same_test}
 
 pub record Hex (room size : ℕ) (text : List ℕ) : Type 0 where
   pub some : 0 < size
   pub most : size ≤ room
   pub pairs : length text ≡ 2 * size
-  pub digits : firstFailing isDigit text ≡ length text
+  pub digits : first_failing is_digit text ≡ length text
 
 module _ (room size : ℕ) (text : List ℕ) where
-  pub hex-facts : isHex room size text ≡ true → Hex room size text
-  unfolding isHex
-  hex-facts e =
+  pub hex_facts : is_hex room size text ≡ true → Hex room size text
+  unfolding is_hex
+  hex_facts e =
       let (sizes, digits) =
-      both (ltb 0 size && leb size room && eqb (length text) (2 * size)) (eqb (firstFailing isDigit text) (length text)) e in
+      both (ltb 0 size && leb size room && eqb (length text) (2 * size)) (eqb (first_failing is_digit text) (length text)) e in
       let (within, pairs) = both (ltb 0 size && leb size room) (eqb (length text) (2 * size)) sizes in
       let (some, most) = both (ltb 0 size) (leb size room) within in
       record {
         some = ltb-true 0 size some;
         most = leb-true size room most;
         pairs = eqb-true (length text) (2 * size) pairs;
-        digits = eqb-true (firstFailing isDigit text) (length text) digits;
+        digits = eqb-true (first_failing is_digit text) (length text) digits;
       }
 
-  hex-is : Hex room size text → isHex room size text ≡ true
-  unfolding isHex
-  hex-is h = rw (lt-ltb 0 size h.some, le-leb size room h.most, eq-eqb (length text) (2 * size) h.pairs, eq-eqb _ _ h.digits)
+  hex_is : Hex room size text → is_hex room size text ≡ true
+  unfolding is_hex
+  hex_is h = rw (lt-ltb 0 size h.some, le-leb size room h.most, eq-eqb (length text) (2 * size) h.pairs, eq-eqb _ _ h.digits)
 
   -- a test of how many bytes were decoded
   module _ (n : ℕ) (e : n ≡ min (length (decoded text)) room) where
-    pub hex-test : (r : Bool) → (r ≡ true → (0 < n) × (n ≡ size) × (length text ≡ 2 * n))
-        → (0 < n → n ≡ size → length text ≡ 2 * n → r ≡ true) → r ≡ isHex room size text
-    hex-test r f g = same_test r (isHex room size text) (λ t. whole (f t)) (λ t. back (hex-facts t))
+    pub hex_test : (r : Bool) → (r ≡ true → (0 < n) × (n ≡ size) × (length text ≡ 2 * n))
+        → (0 < n → n ≡ size → length text ≡ 2 * n → r ≡ true) → r ≡ is_hex room size text
+    hex_test r f g = same_test r (is_hex room size text) (λ t. whole (f t)) (λ t. back (hex_facts t))
       where
-        whole : (0 < n) × (n ≡ size) × (length text ≡ 2 * n) → isHex room size text ≡ true
+        whole : (0 < n) × (n ≡ size) × (length text ≡ 2 * n) → is_hex room size text ≡ true
         whole (o, s, p) =
-            hex-is
+            hex_is
             (record {
               some = omega arith;
               most = omega arith;
               pairs = omega arith;
-              digits = omega (arith, length-decoded text, first-within isDigit text);
+              digits = omega (arith, length-decoded text, first-within is_digit text);
             })
 
         back : Hex room size text → r ≡ true
@@ -62,18 +62,18 @@ module _ (room size : ℕ) (text : List ℕ) where
             let s : n ≡ size = omega (arith, length-decoded text, h.most, h.pairs, h.digits) in
             g (omega (arith, h.some)) s (omega (arith, h.pairs))
 
-    pub not-hex : (0 < n → n ≡ size → ⊥) → false ≡ isHex room size text
-    not-hex d = hex-test false (λ t. absurd (false≢true t)) (λ o s p. absurd (d o s))
+    pub not_hex : (0 < n → n ≡ size → ⊥) → false ≡ is_hex room size text
+    not_hex d = hex_test false (λ t. absurd (false≢true t)) (λ o s p. absurd (d o s))
 
-  module _ (e : isHex room size text ≡ true) where
-    pub length-hex : length (bytes_of text) ≡ size
-    length-hex = omega (arith, length-bytes text, (hex-facts e).pairs)
+  module _ (e : is_hex room size text ≡ true) where
+    pub length_hex : length (bytes_of text) ≡ size
+    length_hex = omega (arith, length-bytes text, (hex_facts e).pairs)
 
     -- what is decoded into a buffer that has room
     pub hex-decoded : (out : List ℕ) → size ≤ length out → take size (written (decoded text) out) ≡ bytes_of text
     hex-decoded out fits =
         let all : decoded text ≡ bytes_of text =
-        take_all (firstFailing isDigit text / 2) (bytes_of text) (omega (arith, length-hex, (hex-facts e).pairs, (hex-facts e).digits)) in
-        let front : take (length out) (bytes_of text) ≡ bytes_of text = take_all (length out) (bytes_of text) (omega (arith, length-hex)) in
+        take_all (first_failing is_digit text / 2) (bytes_of text) (omega (arith, length_hex, (hex_facts e).pairs, (hex_facts e).digits)) in
+        let front : take (length out) (bytes_of text) ≡ bytes_of text = take_all (length out) (bytes_of text) (omega (arith, length_hex)) in
         rw (all, front)
-        (take-append-le size (bytes_of text) _ (omega (arith, length-hex)) ∙ take_all size (bytes_of text) (omega (arith, length-hex)))
+        (take-append-le size (bytes_of text) _ (omega (arith, length_hex)) ∙ take_all size (bytes_of text) (omega (arith, length_hex)))

@@ -9,8 +9,8 @@ use lib.Dec.{eqb}
 use lib.ListN.{length, get_or, take, drop, length-take, length-drop}
 use borrow.Author.Tests.{eq-eqb, ne_eqb, eqb-true, lt-ltb, le-ltb}
 use Rattle.lists.proofs.Both.{both}
-use Rattle.lists.specs.First.{firstFailing}
-use Rattle.response_files.specs.Lines.{inLine, afterLine, withoutReturn, line_of, same, startsWith, value_of, linesAfter, lines, feeds}
+use Rattle.lists.specs.First.{first_failing}
+use Rattle.response_files.specs.Lines.{in_line, after_line, without_return, line_of, same, starts_with, value_of, lines_after, lines, feeds}
 
 -- two tests that are true of the same are one
 pub same_test : (r s : Bool) → (r ≡ true → s ≡ true) → (s ≡ true → r ≡ true) → r ≡ s
@@ -34,73 +34,73 @@ same_true (c ∷ a) (d ∷ b) e =
     let (head, tail) = both (eqb c d) (same a b) e in
     ap₂ (λ (x : ℕ) (xs : List ℕ). x ∷ xs) (eqb-true c d head) (same_true a b tail)
 
-pub same-is : (a b : List ℕ) → a ≡ b → same a b ≡ true
-same-is a b e = rw e (same_refl b)
+pub same_is : (a b : List ℕ) → a ≡ b → same a b ≡ true
+same_is a b e = rw e (same_refl b)
 
-pub same-shorter : (a b : List ℕ) → length a < length b → same a b ≡ false
-same-shorter a b h = same_test (same a b) false (λ e. absurd (omega (arith, ap length (same_true a b e)))) (λ e. absurd (false≢true e))
+pub same_shorter : (a b : List ℕ) → length a < length b → same a b ≡ false
+same_shorter a b h = same_test (same a b) false (λ e. absurd (omega (arith, ap length (same_true a b e)))) (λ e. absurd (false≢true e))
 
-pub starts-within : (prefix text : List ℕ) → startsWith prefix text ≡ true → length prefix ≤ length text
+pub starts-within : (prefix text : List ℕ) → starts_with prefix text ≡ true → length prefix ≤ length text
 starts-within prefix text e = omega (arith, ap length (same_true (take (length prefix) text) prefix e), length-take (length prefix) text)
 
 -- ---- the parts of a text
 
-pub return-cut : (l : List ℕ) → get_or l (length l - 1) 0 ≡ 13 → withoutReturn l ≡ take (length l - 1) l
-unfolding withoutReturn
-return-cut l e = rw (eq-eqb _ 13 e)
+pub return_cut : (l : List ℕ) → get_or l (length l - 1) 0 ≡ 13 → without_return l ≡ take (length l - 1) l
+unfolding without_return
+return_cut l e = rw (eq-eqb _ 13 e)
 
-pub return_kept : (l : List ℕ) → (get_or l (length l - 1) 0 ≡ 13 → ⊥) → withoutReturn l ≡ l
-unfolding withoutReturn
+pub return_kept : (l : List ℕ) → (get_or l (length l - 1) 0 ≡ 13 → ⊥) → without_return l ≡ l
+unfolding without_return
 return_kept l e = rw (ne_eqb _ 13 e)
 
-pub return-none : (l : List ℕ) → length l ≡ 0 → withoutReturn l ≡ l
-unfolding withoutReturn
-return-none [] e = refl
-return-none (c ∷ l) e = absurd (omega arith)
+pub return_none : (l : List ℕ) → length l ≡ 0 → without_return l ≡ l
+unfolding without_return
+return_none [] e = refl
+return_none (c ∷ l) e = absurd (omega arith)
 
 module _ (text : List ℕ) where
-  pub line-there : firstFailing inLine text < length text → line_of text ≡ withoutReturn (take (firstFailing inLine text) text)
+  pub line_there : first_failing in_line text < length text → line_of text ≡ without_return (take (first_failing in_line text) text)
   unfolding line_of
-  line-there h = rw (lt-ltb _ _ h)
+  line_there h = rw (lt-ltb _ _ h)
 
-  pub line-none : length text ≤ firstFailing inLine text → line_of text ≡ []
+  pub line_none : length text ≤ first_failing in_line text → line_of text ≡ []
   unfolding line_of
-  line-none h = rw (le-ltb _ _ h)
+  line_none h = rw (le-ltb _ _ h)
 
-  pub value_there : (name : List ℕ) → startsWith name (line_of text) ≡ true → value_of name text ≡ drop (length name) (line_of text)
+  pub value_there : (name : List ℕ) → starts_with name (line_of text) ≡ true → value_of name text ≡ drop (length name) (line_of text)
   unfolding value_of
   value_there name e = rw e
 
-  pub value_none : (name : List ℕ) → startsWith name (line_of text) ≡ false → value_of name text ≡ []
+  pub value_none : (name : List ℕ) → starts_with name (line_of text) ≡ false → value_of name text ≡ []
   unfolding value_of
   value_none name e = rw e
 
-  pub after-within : length (afterLine text) ≤ length text - 1
-  unfolding afterLine
+  pub after-within : length (after_line text) ≤ length text - 1
+  unfolding after_line
   after-within = rw length-drop (omega arith)
 
 -- ---- all lines
 
-after-lines : (text : List ℕ) → linesAfter text ≡ lines (afterLine text)
-unfolding linesAfter lines afterLine firstFailing
-after-lines [] = refl
-after-lines (c ∷ []) = by (inLine c)
+after_lines_lem : (text : List ℕ) → lines_after text ≡ lines (after_line text)
+unfolding lines_after lines after_line first_failing
+after_lines_lem [] = refl
+after_lines_lem (c ∷ []) = by (in_line c)
   where
     by : (t : Bool) → [] ≡ lines (drop (cond t 1 0 + 1) (c ∷ []))
     by true = refl
     by false = refl
-after-lines (c ∷ d ∷ text) = by (inLine c) (after-lines (d ∷ text))
+after_lines_lem (c ∷ d ∷ text) = by (in_line c) (after_lines_lem (d ∷ text))
   where
-    by : (t : Bool) → linesAfter (d ∷ text) ≡ lines (drop (firstFailing inLine (d ∷ text) + 1) (d ∷ text))
-        → cond t (linesAfter (d ∷ text)) ((d ∷ text) ∷ linesAfter (d ∷ text))
-        ≡ lines (drop (cond t (suc (firstFailing inLine (d ∷ text))) 0 + 1) (c ∷ d ∷ text))
+    by : (t : Bool) → lines_after (d ∷ text) ≡ lines (drop (first_failing in_line (d ∷ text) + 1) (d ∷ text))
+        → cond t (lines_after (d ∷ text)) ((d ∷ text) ∷ lines_after (d ∷ text))
+        ≡ lines (drop (cond t (suc (first_failing in_line (d ∷ text))) 0 + 1) (c ∷ d ∷ text))
     by true e = rw add-one (rw add-one at e)
     by false e = refl
 
-pub lines_more : (text : List ℕ) → 0 < length text → lines text ≡ text ∷ lines (afterLine text)
+pub lines_more : (text : List ℕ) → 0 < length text → lines text ≡ text ∷ lines (after_line text)
 unfolding lines
 lines_more [] h = absurd (omega arith)
-lines_more (c ∷ text) h = ap (λ (l : List (List ℕ)). (c ∷ text) ∷ l) (after-lines (c ∷ text))
+lines_more (c ∷ text) h = ap (λ (l : List (List ℕ)). (c ∷ text) ∷ l) (after_lines_lem (c ∷ text))
 
 pub lines_none : (text : List ℕ) → length text ≡ 0 → lines text ≡ []
 unfolding lines
@@ -112,7 +112,7 @@ lines_none (c ∷ text) h = absurd (omega arith)
 pub feeds-within : (text : List ℕ) → feeds text ≤ length text
 unfolding feeds
 feeds-within [] = omega arith
-feeds-within (c ∷ text) = by (inLine c) (feeds-within text)
+feeds-within (c ∷ text) = by (in_line c) (feeds-within text)
   where
     by : (t : Bool) → feeds text ≤ length text → cond t (feeds text) (suc (feeds text)) ≤ suc (length text)
     by true h = omega arith
@@ -120,17 +120,17 @@ feeds-within (c ∷ text) = by (inLine c) (feeds-within text)
 
 -- one byte more
 feeds-suc : (i : ℕ) (text : List ℕ) → i < length text
-    → feeds (take (suc i) text) ≡ cond (inLine (get_or text i 0)) (feeds (take i text)) (suc (feeds (take i text)))
+    → feeds (take (suc i) text) ≡ cond (in_line (get_or text i 0)) (feeds (take i text)) (suc (feeds (take i text)))
 unfolding feeds
 feeds-suc i [] h = absurd (omega arith)
 feeds-suc zero (c ∷ text) h = refl
-feeds-suc (suc i) (c ∷ text) h = rw (feeds-suc i text (omega arith)) (by (inLine c) (inLine (get_or text i 0)) (feeds (take i text)))
+feeds-suc (suc i) (c ∷ text) h = rw (feeds-suc i text (omega arith)) (by (in_line c) (in_line (get_or text i 0)) (feeds (take i text)))
   where
     by : (s t : Bool) (n : ℕ) → cond s (cond t n (suc n)) (suc (cond t n (suc n))) ≡ cond t (cond s n (suc n)) (suc (cond s n (suc n)))
     by true t n = refl
     by false true n = refl
     by false false n = refl
 
-pub feeds-more : (i : ℕ) (text : List ℕ) → i < length text
-    → feeds (take (i + 1) text) ≡ cond (inLine (get_or text i 0)) (feeds (take i text)) (feeds (take i text) + 1)
-feeds-more i text h = rw (add-one i, add-one (feeds (take i text))) (feeds-suc i text h)
+pub feeds_more : (i : ℕ) (text : List ℕ) → i < length text
+    → feeds (take (i + 1) text) ≡ cond (in_line (get_or text i 0)) (feeds (take i text)) (feeds (take i text) + 1)
+feeds_more i text h = rw (add-one i, add-one (feeds (take i text))) (feeds-suc i text h)

@@ -1,7 +1,7 @@
 -- What the lines of a case hold: numbers in decimal, and bytes in hexadecimal.
 use Rattle.std.specs.Prelude.{Bool, false, cond, ◌&&◌, List, [], ◌∷◌, ℕ, ◌+◌, ◌-◌, ◌*◌, ◌/◌, ◌%◌, ltb, leb, eqb, length}
-use Rattle.lists.specs.First.{firstFailing}
-use Rattle.hex.specs.Hex.{isDigit}
+use Rattle.lists.specs.First.{first_failing}
+use Rattle.hexadecimal.specs.Hex.{is_digit}
 use Rattle.response_files.specs.declared.Number.{Number}
 use Rattle.response_files.specs.declared.Number.TheVariants.{Value, Missing}
 use Rattle.response_files.specs.Lines.{value_of}
@@ -16,32 +16,32 @@ continued n [] = Value n
 continued n (c ∷ text) = cond (grows n c) (continued (10 * n + (c - 48)) text) Missing
 
 -- the number that a text of digits spells, below 1,000,000,000; Missing for any other text
-unfoldable pub decimalOf : List ℕ → Number
-decimalOf [] = Missing
-decimalOf (c ∷ text) = continued 0 (c ∷ text)
+unfoldable pub decimal_of : List ℕ → Number
+decimal_of [] = Missing
+decimal_of (c ∷ text) = continued 0 (c ∷ text)
 
 -- a length in bits as whole bytes
-abbrev pub wholeBytes : Number → Number
-wholeBytes (Value n) = cond (eqb (n % 8) 0) (Value (n / 8)) Missing
-wholeBytes Missing = Missing
+abbrev pub whole_bytes : Number → Number
+whole_bytes (Value n) = cond (eqb (n % 8) 0) (Value (n / 8)) Missing
+whole_bytes Missing = Missing
 
 -- the length in bits that the first line gives under a name, in bytes
-abbrev pub lengthField : (name text : List ℕ) → Number
-lengthField name text = wholeBytes (decimalOf (value_of name text))
+abbrev pub length_field : (name text : List ℕ) → Number
+length_field name text = whole_bytes (decimal_of (value_of name text))
 
 abbrev pub is_number : (count : ℕ) → Number → Bool
 is_number count (Value n) = eqb n count
 is_number count Missing = false
 
 -- `COUNT = `
-abbrev pub countName : List ℕ
-countName = 67 ∷ 79 ∷ 85 ∷ 78 ∷ 84 ∷ 32 ∷ 61 ∷ 32 ∷ []
+abbrev pub count_name : List ℕ
+count_name = 67 ∷ 79 ∷ 85 ∷ 78 ∷ 84 ∷ 32 ∷ 61 ∷ 32 ∷ []
 
 -- the first line gives this count
-abbrev pub isCount : (count : ℕ) (text : List ℕ) → Bool
-isCount count text = is_number count (decimalOf (value_of countName text))
+abbrev pub is_count : (count : ℕ) (text : List ℕ) → Bool
+is_count count text = is_number count (decimal_of (value_of count_name text))
 
 -- the text is size bytes in hexadecimal, one or more, for which there is room, and nothing else
-unfoldable pub isHex : (room size : ℕ) (text : List ℕ) → Bool
-isHex room size text =
-    ltb 0 size && leb size room && eqb (length text) (2 * size) && eqb (firstFailing isDigit text) (length text)
+unfoldable pub is_hex : (room size : ℕ) (text : List ℕ) → Bool
+is_hex room size text =
+    ltb 0 size && leb size room && eqb (length text) (2 * size) && eqb (first_failing is_digit text) (length text)

@@ -1,17 +1,17 @@
 // The text of NIST's response files: lines, numbers, fields in hexadecimal, and the lines before the first case. Every function takes
 // any bytes.
 ghost use Rattle.std.specs.Prelude.{◌≡◌, length};
-ghost use Rattle.lists.specs.First.{firstFailing};
-ghost use Rattle.hex.specs.Hex.{decoded, written};
-ghost use Rattle.response_files.specs.Lines.{inLine, afterLine, withoutReturn, line_of, same, startsWith, value_of, isBlank, line_at};
-ghost use Rattle.response_files.specs.Fields.{decimalOf, wholeBytes, lengthField, isCount, isHex};
-ghost use Rattle.response_files.specs.Headers.{isRemark, isPreamble, lengthHeader, numberOr, body, headerNumber};
+ghost use Rattle.lists.specs.First.{first_failing};
+ghost use Rattle.hexadecimal.specs.Hex.{decoded, written};
+ghost use Rattle.response_files.specs.Lines.{in_line, after_line, without_return, line_of, same, starts_with, value_of, is_blank, line_at};
+ghost use Rattle.response_files.specs.Fields.{decimal_of, whole_bytes, length_field, is_count, is_hex};
+ghost use Rattle.response_files.specs.Headers.{is_remark, is_preamble, length_header, number_or, body, header_number};
 
 // ---- lines
 
 // The place of the first line feed; the length where there is none.
 fn line_feed(text: &[u8]) -> usize
-    ensures { result ≡ firstFailing inLine text.now }
+    ensures { result ≡ first_failing in_line text.now }
 {
     let mut i = 0;
     while i < text.len() {
@@ -25,7 +25,7 @@ fn line_feed(text: &[u8]) -> usize
 
 // What stands behind the first line.
 pub fn after_line(text: &[u8]) -> &[u8]
-    ensures { result.now ≡ afterLine text.now }
+    ensures { result.now ≡ after_line text.now }
 {
     let n = line_feed(text);
     if n < text.len() {
@@ -36,7 +36,7 @@ pub fn after_line(text: &[u8]) -> &[u8]
 
 // A line without a carriage return at its end.
 fn without_return(line: &[u8]) -> &[u8]
-    ensures { result.now ≡ withoutReturn line.now }
+    ensures { result.now ≡ without_return line.now }
 {
     let n = line.len();
     if n == 0 {
@@ -66,7 +66,7 @@ pub fn same(a: &[u8], b: &[u8]) -> bool
 }
 
 fn starts_with(text: &[u8], prefix: &[u8]) -> bool
-    ensures { result ≡ startsWith prefix.now text.now }
+    ensures { result ≡ starts_with prefix.now text.now }
 {
     let n = prefix.len();
     if text.len() < n {
@@ -89,7 +89,7 @@ pub fn value<'a>(text: &'a [u8], name: &[u8]) -> &'a [u8]
 
 // Whether the first line is there and has nothing before its end.
 pub fn is_blank(text: &[u8]) -> bool
-    ensures { result ≡ isBlank text.now }
+    ensures { result ≡ is_blank text.now }
 {
     if line_feed(text) < text.len() {
         return first_line(text).len() == 0;
@@ -122,7 +122,7 @@ pub enum Number {
 
 // The number that the digits spell, if it is below 1,000,000,000.
 fn decimal(text: &[u8]) -> Number
-    ensures { result ≡ decimalOf text.now }
+    ensures { result ≡ decimal_of text.now }
 {
     if text.len() == 0 {
         return Number::Missing;
@@ -142,7 +142,7 @@ fn decimal(text: &[u8]) -> Number
 
 // A length in bits as whole bytes.
 fn whole_bytes(bits: Number) -> Number
-    ensures { result ≡ wholeBytes bits }
+    ensures { result ≡ whole_bytes bits }
 {
     let Number::Value(n) = bits else {
         return Number::Missing;
@@ -156,14 +156,14 @@ fn whole_bytes(bits: Number) -> Number
 
 // The length in bits that a line gives, in bytes.
 pub fn length_field(text: &[u8], name: &[u8]) -> Number
-    ensures { result ≡ lengthField name.now text.now }
+    ensures { result ≡ length_field name.now text.now }
 {
     whole_bytes(decimal(value(text, name)))
 }
 
 // Whether the line `COUNT = ` has this number.
 pub fn is_count(text: &[u8], count: usize) -> bool
-    ensures { result ≡ isCount count text.now }
+    ensures { result ≡ is_count count text.now }
 {
     let Number::Value(n) = decimal(value(text, b"COUNT = ")) else {
         return false;
@@ -173,10 +173,10 @@ pub fn is_count(text: &[u8], count: usize) -> bool
 
 // Whether the text is just size bytes in hexadecimal, one or more, for which out has room. What it starts with is decoded into out.
 pub fn read_hex(text: &[u8], size: usize, out: &mut [u8]) -> bool
-    ensures value { result ≡ isHex (length out.old) size text.now }
+    ensures value { result ≡ is_hex (length out.old) size text.now }
     ensures out_after { out.new ≡ written (decoded text.now) out.old }
 {
-    let n = hex::decode(text, out);
+    let n = hexadecimal::decode(text, out);
     if n == 0 {
         return false;
     }
@@ -190,7 +190,7 @@ pub fn read_hex(text: &[u8], size: usize, out: &mut [u8]) -> bool
 
 // Whether a line is a comment or a header.
 fn is_remark(line: &[u8]) -> bool
-    ensures { result ≡ isRemark line.now }
+    ensures { result ≡ is_remark line.now }
 {
     let n = line.len();
     if n == 0 {
@@ -201,7 +201,7 @@ fn is_remark(line: &[u8]) -> bool
 
 // Whether the first line is blank, a comment or a header.
 fn is_preamble(text: &[u8]) -> bool
-    ensures { result ≡ isPreamble text.now }
+    ensures { result ≡ is_preamble text.now }
 {
     if is_blank(text) {
         return true;
@@ -211,7 +211,7 @@ fn is_preamble(text: &[u8]) -> bool
 
 // The length in bits that a header gives, in bytes; a header ends with a bracket.
 fn length_header(text: &[u8], name: &[u8]) -> Number
-    ensures { result ≡ lengthHeader name.now text.now }
+    ensures { result ≡ length_header name.now text.now }
 {
     let v = value(text, name);
     let n = v.len();
@@ -222,7 +222,7 @@ fn length_header(text: &[u8], name: &[u8]) -> Number
 }
 
 fn number_or(number: Number, other: usize) -> usize
-    ensures { result ≡ numberOr number other }
+    ensures { result ≡ number_or number other }
 {
     match number {
         Number::Value(n) => n,
@@ -244,7 +244,7 @@ pub fn body(text: &[u8]) -> &[u8]
 
 // The length that the last header of a name gives, in bytes; 0 where there is none.
 pub fn header_number(text: &[u8], name: &[u8]) -> usize
-    ensures { result ≡ headerNumber name.now text.now }
+    ensures { result ≡ header_number name.now text.now }
 {
     let mut rest = text;
     let mut number = 0;

@@ -13,21 +13,21 @@ use Rattle.algebra.specs.Size.{magnitude}
 use Rattle.algebra.proofs.Ring.{ring}
 use Rattle.algebra.proofs.Ring as L
 use Rattle.algebra.proofs.Residues.{ℤ/, of-mod, of_zero, of-add, of-mul, same_of}
-use Rattle.algebra.proofs.Numbers.{of-subMod}
+use Rattle.algebra.proofs.Numbers.{of-sub_mod}
 use Rattle.modq.proofs.Prime.{q-positive}
 use Rattle.ring.specs.Ring.{q}
 use Rattle.ring.specs.Centred.{centred, residue}
-use Rattle.ring.proofs.Integers.{minus-up, abs_neg, sub-up, sub-down}
+use Rattle.ring.proofs.Integers.{minus-up, abs_neg, sub-up, sub_down}
 
 -- ---- centred values
 
-pub centred-low : (c : ℕ) → c % q ≤ 29696 → centred c ≡ pos (c % q)
+pub centred_low : (c : ℕ) → c % q ≤ 29696 → centred c ≡ pos (c % q)
 unfolding centred
-centred-low c h = rw (le-leb (c % q) 29696 h)
+centred_low c h = rw (le-leb (c % q) 29696 h)
 
-pub centred-high : (c : ℕ) → 29696 < c % q → centred c ≡ neg_ℤ (pos (q - c % q))
+pub centred_high : (c : ℕ) → 29696 < c % q → centred c ≡ neg_ℤ (pos (q - c % q))
 unfolding centred
-centred-high c h = rw (lt-leb (c % q) 29696 h) (minus-up (c % q) q (mod-lt c q-positive))
+centred_high c h = rw (lt-leb (c % q) 29696 h) (minus-up (c % q) q (mod-lt c q-positive))
 
 -- it goes by the residue
 pub centred-same : (c d : ℕ) → c % q ≡ d % q → centred c ≡ centred d
@@ -39,8 +39,8 @@ pub centred-size : (c : ℕ) → nat_abs (centred c) ≡ magnitude q c
 centred-size c = by (dec_le (c % q) 29696)
   where
     by : Dec (c % q ≤ 29696) → nat_abs (centred c) ≡ magnitude q c
-    by (yes h) = ap nat_abs (centred-low c h) ∙ omega arith
-    by (no h) = ap nat_abs (centred-high c (omega arith)) ∙ abs_neg (pos (q - c % q)) ∙ omega arith
+    by (yes h) = ap nat_abs (centred_low c h) ∙ omega arith
+    by (no h) = ap nat_abs (centred_high c (omega arith)) ∙ abs_neg (pos (q - c % q)) ∙ omega arith
 
 pub centred-bound : (c : ℕ) → nat_abs (centred c) ≤ 29696
 centred-bound c = rw (centred-size c) (omega arith)
@@ -62,22 +62,22 @@ pub residue-centred : (c : ℕ) → residue (centred c) ≡ c % q
 residue-centred c = by (dec_le (c % q) 29696)
   where
     by : Dec (c % q ≤ 29696) → residue (centred c) ≡ c % q
-    by (yes h) = ap residue (centred-low c h) ∙ (unfold residue in omega arith)
-    by (no h) = ap residue (centred-high c (omega arith)) ∙ residue-neg (q - c % q) (omega arith) (omega arith) ∙ omega arith
+    by (yes h) = ap residue (centred_low c h) ∙ (unfold residue in omega arith)
+    by (no h) = ap residue (centred_high c (omega arith)) ∙ residue-neg (q - c % q) (omega arith) (omega arith) ∙ omega arith
 
 -- an integer of at most (q - 1) / 2 in size is the centred value of its residue
 pub centred-residue : (z : ℤ) → nat_abs z ≤ 29696 → centred (residue z) ≡ z
 centred-residue (pos m) h =
     let e : residue (pos m) ≡ m = (unfold residue in omega arith) in
-    centred-low (residue (pos m)) (omega arith) ∙ ap pos (omega arith)
+    centred_low (residue (pos m)) (omega arith) ∙ ap pos (omega arith)
 centred-residue (negsuc m) h =
     let e : residue (negsuc m) ≡ q - suc m = residue-neg (suc m) (omega arith) (omega arith) in
     let d : q - residue (negsuc m) % q ≡ suc m = omega arith in
-    centred-high (residue (negsuc m)) (omega arith) ∙ ap (λ (k : ℕ). neg_ℤ (pos k)) d
+    centred_high (residue (negsuc m)) (omega arith) ∙ ap (λ (k : ℕ). neg_ℤ (pos k)) d
 
 -- words with the same centred value have the same residue
-pub centred-injective : (c d : ℕ) → centred c ≡ centred d → c % q ≡ d % q
-centred-injective c d e = sym (residue-centred c) ∙ ap residue e ∙ residue-centred d
+pub centred_injective : (c d : ℕ) → centred c ≡ centred d → c % q ≡ d % q
+centred_injective c d e = sym (residue-centred c) ∙ ap residue e ∙ residue-centred d
 
 -- ---- the residue of a sum is the sum of the residues, in ℤ/q
 
@@ -94,14 +94,14 @@ open Z use {◌⊕◌, ◌⊗◌, neg, 𝟘}
 abbrev class : ℤ → Residue q
 class x = z (residue x)
 
-class-pos : (m : ℕ) → class (pos m) ≡ z m
+class_pos : (m : ℕ) → class (pos m) ≡ z m
 unfolding residue
-class-pos m = of-mod q q-positive m
+class_pos m = of-mod q q-positive m
 
 class-neg : (m : ℕ) → class (neg_ℤ (pos m)) ≡ neg (z m)
 unfolding residue
 class-neg zero = of-mod q q-positive 0 ∙ of_zero q q-positive ∙ sym (L.neg-zero Z) ∙ ap neg (sym (of_zero q q-positive))
-class-neg (suc m) = of-subMod q q-positive 0 (suc m) ∙ ap (λ (x : Residue q). x ⊕ neg (z (suc m))) (of_zero q q-positive) ∙ L.zero-plus Z _
+class-neg (suc m) = of-sub_mod q q-positive 0 (suc m) ∙ ap (λ (x : Residue q). x ⊕ neg (z (suc m))) (of_zero q q-positive) ∙ L.zero-plus Z _
 
 class-sub : (a b : ℕ) → class (sub_ℕ a b) ≡ z a ⊕ neg (z b)
 class-sub a b = by (dec_lt a b)
@@ -117,16 +117,16 @@ class-sub a b = by (dec_lt a b)
         ap class (sub-up a b h) ∙ class-neg (suc (b - suc a)) ∙ more (z a) (z (suc (b - suc a)))
         ∙ ap (λ (x : Residue q). z a ⊕ neg x) (sym (of-add q q-positive a (suc (b - suc a))) ∙ ap z (omega arith))
     by (no h) =
-        ap class (sub-down a b (omega arith)) ∙ class-pos (a - b) ∙ less (z b) (z (a - b))
+        ap class (sub_down a b (omega arith)) ∙ class_pos (a - b) ∙ less (z b) (z (a - b))
         ∙ ap (λ (x : Residue q). x ⊕ neg (z b)) (sym (of-add q q-positive b (a - b)) ∙ ap z (omega arith))
 
 class-plus : (x y : ℤ) → class (x +ℤ y) ≡ class x ⊕ class y
 class-plus (pos a) (pos b) =
-    class-pos (a + b) ∙ of-add q q-positive a b ∙ ap₂ (λ (x y : Residue q). x ⊕ y) (sym (class-pos a)) (sym (class-pos b))
+    class_pos (a + b) ∙ of-add q q-positive a b ∙ ap₂ (λ (x y : Residue q). x ⊕ y) (sym (class_pos a)) (sym (class_pos b))
 class-plus (pos a) (negsuc b) =
-    class-sub a (suc b) ∙ ap₂ (λ (x y : Residue q). x ⊕ y) (sym (class-pos a)) (sym (class-neg (suc b)))
+    class-sub a (suc b) ∙ ap₂ (λ (x y : Residue q). x ⊕ y) (sym (class_pos a)) (sym (class-neg (suc b)))
 class-plus (negsuc a) (pos b) =
-    class-sub b (suc a) ∙ L.plus_comm Z _ _ ∙ ap₂ (λ (x y : Residue q). x ⊕ y) (sym (class-neg (suc a))) (sym (class-pos b))
+    class-sub b (suc a) ∙ L.plus_comm Z _ _ ∙ ap₂ (λ (x y : Residue q). x ⊕ y) (sym (class-neg (suc a))) (sym (class_pos b))
 class-plus (negsuc a) (negsuc b) =
     class-neg (suc (suc (a + b))) ∙ ap (λ (m : ℕ). neg (z m)) both ∙ ap neg (of-add q q-positive (suc a) (suc b)) ∙ L.neg-plus Z _ _
     ∙ ap₂ (λ (x y : Residue q). x ⊕ y) (sym (class-neg (suc a))) (sym (class-neg (suc b)))
@@ -135,7 +135,7 @@ class-plus (negsuc a) (negsuc b) =
     both = omega arith
 
 class-multiple : (k : ℕ) (x : ℤ) → class (pos k *ℤ x) ≡ z k ⊗ class x
-class-multiple k (pos a) = class-pos (k * a) ∙ of-mul q q-positive k a ∙ ap (λ (x : Residue q). z k ⊗ x) (sym (class-pos a))
+class-multiple k (pos a) = class_pos (k * a) ∙ of-mul q q-positive k a ∙ ap (λ (x : Residue q). z k ⊗ x) (sym (class_pos a))
 class-multiple k (negsuc a) =
     class-neg (k * suc a) ∙ ap neg (of-mul q q-positive k (suc a)) ∙ sym (L.times-neg Z _ _)
     ∙ ap (λ (x : Residue q). z k ⊗ x) (sym (class-neg (suc a)))

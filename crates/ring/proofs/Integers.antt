@@ -7,8 +7,8 @@ use lib.IntN.{ℤ, pos, negsuc, neg_ℤ, nat_abs, sub_ℕ, ◌+ℤ◌, ◌-ℤ�
 use borrow.Author.Tests.{lt-ltb, le-ltb}
 
 -- a - b where b is at most a, and where it is more
-pub sub-down : (a b : ℕ) → b ≤ a → sub_ℕ a b ≡ pos (a - b)
-sub-down a b h = rw (le-ltb a b h)
+pub sub_down : (a b : ℕ) → b ≤ a → sub_ℕ a b ≡ pos (a - b)
+sub_down a b h = rw (le-ltb a b h)
 
 pub sub-up : (a b : ℕ) → a < b → sub_ℕ a b ≡ negsuc (b - suc a)
 sub-up a b h = rw (lt-ltb a b h)
@@ -29,7 +29,7 @@ abs-sub a b = by (dec_lt a b)
   where
     by : Dec (a < b) → nat_abs (sub_ℕ a b) ≤ a + b
     by (yes h) = rw (sub-up a b h) (omega arith)
-    by (no h) = rw (sub-down a b (omega arith)) (omega arith)
+    by (no h) = rw (sub_down a b (omega arith)) (omega arith)
 
 pub abs-plus : (x y : ℤ) → nat_abs (x +ℤ y) ≤ nat_abs x + nat_abs y
 abs-plus (pos a) (pos b) = omega arith

@@ -8,38 +8,38 @@ use Prim.Native.Nat.{ℕ, suc, ◌<◌}
 use native.Mathlib.Nat.{mod-lt, mul-zero}
 use lib.ListN.{length, get_or, set}
 use Rattle.lists.specs.Table.{table, zeros}
-use Rattle.lists.proofs.Tables.{getD-table, table_same}
+use Rattle.lists.proofs.Tables.{get_or-table, table_same}
 use Rattle.algebra.specs.Numbers as N
-use Rattle.algebra.specs.Numbers.{mulMod}
+use Rattle.algebra.specs.Numbers.{mul_mod}
 use Rattle.algebra.proofs.Numbers.{element-table}
 use Rattle.modq.proofs.Prime.{q-positive}
-use Rattle.ntt.specs.Spectrum.{spectrumOf, coefficientsOf, pointwise}
+use Rattle.ntt.specs.Spectrum.{spectrum_of, coefficients_of, pointwise}
 use Rattle.ntt.proofs.Spectrum.{pointwise-at}
-use Rattle.reciprocals.specs.Reciprocals.{areReciprocals}
-use Rattle.reciprocals.proofs.AreReciprocals.{are-reciprocals-iff}
+use Rattle.reciprocals.specs.Reciprocals.{are_reciprocals}
+use Rattle.reciprocals.proofs.AreReciprocals.{are-reciprocals_iff}
 use Rattle.ring.specs.Ring.{q, n, Element, one, product}
-use Rattle.ring.specs.Invertible.{inverse?}
-use Rattle.ring.proofs.RingLaws.{constant-element, one-is}
-use Rattle.ring.proofs.Transforms.{value-of-zeros, product-by-spectra, left-through, right-through}
-use Rattle.ring.proofs.Spectra.{coefficients-through, spectrum-through}
+use Rattle.ring.specs.Invertible.{is_inverse}
+use Rattle.ring.proofs.RingLaws.{constant-element, one_is}
+use Rattle.ring.proofs.Transforms.{value_of-zeros, product_by-spectra, left_through, right_through}
+use Rattle.ring.proofs.Spectra.{coefficients_through, spectrum_through}
 
 -- a test that says P is the decision of P
-decided-by : {P : Type 0} (t : Bool) (d : Dec P) → (t ≡ true) ↔ P → t ≡ decide d
+decided_by : {P : Type 0} (t : Bool) (d : Dec P) → (t ≡ true) ↔ P → t ≡ decide d
 unfolding decide
-decided-by true (yes p) iff = refl
-decided-by true (no f) iff = absurd (f (iff.0 refl))
-decided-by false (yes p) iff = absurd (false≢true (iff.1 p))
-decided-by false (no f) iff = refl
+decided_by true (yes p) iff = refl
+decided_by true (no f) iff = absurd (f (iff.0 refl))
+decided_by false (yes p) iff = absurd (false≢true (iff.1 p))
+decided_by false (no f) iff = refl
 
 -- ---- the values of 1 are 1
 
-value-of-one : (x p : ℕ) → N.valueMod q x (set (zeros (suc p)) 0 1) ≡ 1
-unfolding N.valueMod
-value-of-one x p = rw (value-of-zeros x p, mul-zero x) refl
+value_of-one : (x p : ℕ) → N.value_mod q x (set (zeros (suc p)) 0 1) ≡ 1
+unfolding N.value_mod
+value_of-one x p = rw (value_of-zeros x p, mul-zero x) refl
 
-pub spectrum-of-one : spectrumOf one ≡ table n (λ k. 1)
-unfolding spectrumOf
-spectrum-of-one = ap spectrumOf (sym one-is) ∙ table_same n _ _ (λ k h. value-of-one _ 1023)
+pub spectrum_of-one : spectrum_of one ≡ table n (λ k. 1)
+unfolding spectrum_of
+spectrum_of-one = ap spectrum_of (sym one_is) ∙ table_same n _ _ (λ k h. value_of-one _ 1023)
 
 -- ---- so two elements are inverse to each other exactly when every product of two of their values is 1
 
@@ -48,24 +48,24 @@ module _ (x y : List ℕ) (hx : length x ≡ n) (hy : length y ≡ n) where
   unfolding pointwise
   values-element = element-table q n _ (λ k. mod-lt _ q-positive)
 
-  values-iff : ((k : ℕ) → k < n → mulMod q (get_or x k 0) (get_or y k 0) ≡ 1) ↔ (product (coefficientsOf x) (coefficientsOf y) ≡ one)
+  values_iff : ((k : ℕ) → k < n → mul_mod q (get_or x k 0) (get_or y k 0) ≡ 1) ↔ (product (coefficients_of x) (coefficients_of y) ≡ one)
   unfolding pointwise
-  values-iff = (
-    (λ f. sym (product-by-spectra x y hx hy) ∙ ap coefficientsOf (table_same n _ _ f ∙ sym spectrum-of-one) ∙ coefficients-through one (constant-element 1)),
+  values_iff = (
+    (λ f. sym (product_by-spectra x y hx hy) ∙ ap coefficients_of (table_same n _ _ f ∙ sym spectrum_of-one) ∙ coefficients_through one (constant-element 1)),
     (λ e k h.
         sym (pointwise-at x y k h)
-        ∙ ap (λ (l : List ℕ). get_or l k 0) (sym (spectrum-through (pointwise x y) values-element) ∙ ap spectrumOf (product-by-spectra x y hx hy ∙ e) ∙ spectrum-of-one)
-        ∙ getD-table n _ k 0 h),
+        ∙ ap (λ (l : List ℕ). get_or l k 0) (sym (spectrum_through (pointwise x y) values-element) ∙ ap spectrum_of (product_by-spectra x y hx hy ∙ e) ∙ spectrum_of-one)
+        ∙ get_or-table n _ k 0 h),
   )
 
-  pub reciprocals-decide : areReciprocals x y ≡ decide (inverse? (coefficientsOf x) (coefficientsOf y))
-  reciprocals-decide = decided-by _ (inverse? (coefficientsOf x) (coefficientsOf y)) (Iff.trans (are-reciprocals-iff x y) values-iff)
+  pub reciprocals_decide : are_reciprocals x y ≡ decide (is_inverse (coefficients_of x) (coefficients_of y))
+  reciprocals_decide = decided_by _ (is_inverse (coefficients_of x) (coefficients_of y)) (Iff.trans (are-reciprocals_iff x y) values_iff)
 
 -- elements that went through their spectra and back are inverse to each other as they were before
-pub inverse-through : (b i : List ℕ) → length b ≡ n → length i ≡ n
-    → decide (inverse? (coefficientsOf (spectrumOf b)) (coefficientsOf (spectrumOf i))) ≡ decide (inverse? b i)
-inverse-through b i hb hi =
-    decided-by _ (inverse? b i) (Iff.trans (decide_iff (inverse? (coefficientsOf (spectrumOf b)) (coefficientsOf (spectrumOf i)))) ((λ e. sym same ∙ e), (λ e. same ∙ e)))
+pub inverse_through : (b i : List ℕ) → length b ≡ n → length i ≡ n
+    → decide (is_inverse (coefficients_of (spectrum_of b)) (coefficients_of (spectrum_of i))) ≡ decide (is_inverse b i)
+inverse_through b i hb hi =
+    decided_by _ (is_inverse b i) (Iff.trans (decide_iff (is_inverse (coefficients_of (spectrum_of b)) (coefficients_of (spectrum_of i)))) ((λ e. sym same ∙ e), (λ e. same ∙ e)))
   where
-    same : product (coefficientsOf (spectrumOf b)) (coefficientsOf (spectrumOf i)) ≡ product b i
-    same = left-through b (coefficientsOf (spectrumOf i)) hb ∙ right-through b i hi
+    same : product (coefficients_of (spectrum_of b)) (coefficients_of (spectrum_of i)) ≡ product b i
+    same = left_through b (coefficients_of (spectrum_of i)) hb ∙ right_through b i hi

@@ -11,21 +11,21 @@ use Rattle.lists.proofs.Zeros.{size-zeros}
 use Rattle.algebra.specs.Ring.{CommRing}
 use Rattle.algebra.specs.Polynomials.{negacyclic}
 use Rattle.algebra.specs.Numbers as N
-use Rattle.algebra.specs.Numbers.{addMod, mulMod}
+use Rattle.algebra.specs.Numbers.{add_mod, mul_mod}
 use Rattle.algebra.proofs.Ring.{ring}
 use Rattle.algebra.proofs.Residues.{ℤ/}
 use Rattle.algebra.proofs.Numbers.{below_at}
 use Rattle.algebra.proofs.Elements as E
-use Rattle.algebra.proofs.PlainProduct.{plain-product, plain-ring, plain-inverse-unique}
+use Rattle.algebra.proofs.PlainProduct.{plain-product, plain_ring, plain-inverse-unique}
 use Rattle.modq.proofs.Prime.{q-positive}
-use Rattle.modq.proofs.Products.{mulMod-assoc}
+use Rattle.modq.proofs.Products.{mul_mod_assoc}
 use Rattle.ring.specs.Ring.{q, n, Element, Elements, constant, one, sum, difference, multiple, product, Invertible, fifth}
-use Rattle.ring.specs.Invertible.{invertible?, witness, inverseOf}
+use Rattle.ring.specs.Invertible.{is_invertible, witness, inverse_of}
 
 -- ---- the ring: identities between elements are closed by `simp ring` of crate algebra
 
 unfoldable pub elements : CommRing Elements
-elements = plain-ring q q-positive 1023
+elements = plain_ring q q-positive 1023
 
 infixl 65 ◌⊕◌
 infixl 70 ◌⊗◌
@@ -37,23 +37,23 @@ same-element x y e = E.elements_same x y e
 
 -- the lists of the ring's operations are those of specs/Ring
 pub sum-list : (x y : Elements) → (x ⊕ y).0 ≡ sum x.0 y.0
-unfolding elements plain-ring E.elements
+unfolding elements plain_ring E.elements
 sum-list x y = refl
 
 pub product-list : (x y : Elements) → (x ⊗ y).0 ≡ product x.0 y.0
-unfolding elements plain-ring E.elements
+unfolding elements plain_ring E.elements
 product-list x y = refl
 
 pub one_list : 𝟙.0 ≡ one
-unfolding elements plain-ring E.elements
+unfolding elements plain_ring E.elements
 one_list = refl
 
 pub zero-list : 𝟘.0 ≡ constant 0
-unfolding elements plain-ring E.elements
+unfolding elements plain_ring E.elements
 zero-list = refl
 
 pub difference-list : (x y : Elements) → (x ⊕ neg y).0 ≡ difference x.0 y.0
-unfolding elements plain-ring E.elements
+unfolding elements plain_ring E.elements
 difference-list x y = sym (E.minus_is q q-positive n x.0 y.0)
 
 -- every operation gives an element
@@ -86,10 +86,10 @@ sum_less a b ha hb = ap (λ (x : List ℕ). difference x b) (sym (sum-list x y))
     cancel x y = simp ring
 
 -- two summands exchanged, for all words
-pub sum-swapped : (p c e : List ℕ) → sum p (sum c e) ≡ sum c (sum p e)
+pub sum_swapped : (p c e : List ℕ) → sum p (sum c e) ≡ sum c (sum p e)
 unfolding N.plus
-sum-swapped p c e = table_same n _ _ (λ k h.
-    ap (addMod q (get_or p k 0)) (E.plus-at q q-positive n c e k h) ∙ omega arith ∙ sym (ap (addMod q (get_or c k 0)) (E.plus-at q q-positive n p e k h)))
+sum_swapped p c e = table_same n _ _ (λ k h.
+    ap (add_mod q (get_or p k 0)) (E.plus-at q q-positive n c e k h) ∙ omega arith ∙ sym (ap (add_mod q (get_or c k 0)) (E.plus-at q q-positive n p e k h)))
 
 -- ---- multiples
 
@@ -97,23 +97,23 @@ pub multiple-product : (c : ℕ) (a : List ℕ) → length a ≡ n → product (
 multiple-product = E.times-constant q q-positive 1023 (negacyclic (ℤ/ q q-positive)) (N.product q n) (plain-product q q-positive 1023)
 
 -- 5 has the reciprocal `fifth`
-pub five-fifth : mulMod q 5 fifth ≡ 1
+pub five-fifth : mul_mod q 5 fifth ≡ 1
 five-fifth = refl
 
-multiple-twice : (c d : ℕ) → mulMod q c d ≡ 1 → (a : List ℕ) → Element a → multiple c (multiple d a) ≡ a
+multiple_twice : (c d : ℕ) → mul_mod q c d ≡ 1 → (a : List ℕ) → Element a → multiple c (multiple d a) ≡ a
 unfolding N.scale
-multiple-twice c d e a h = sym (table_is n _ a 0 h.size entry)
+multiple_twice c d e a h = sym (table_is n _ a 0 h.size entry)
   where
-    entry : (k : ℕ) → k < n → get_or a k 0 ≡ mulMod q c (get_or (multiple d a) k 0)
+    entry : (k : ℕ) → k < n → get_or a k 0 ≡ mul_mod q c (get_or (multiple d a) k 0)
     entry k l =
-        sym (ap (mulMod q c) (E.scale_at q q-positive n d a k l) ∙ sym (mulMod-assoc q c d (get_or a k 0)) ∙ ap (λ (x : ℕ). mulMod q x (get_or a k 0)) e
+        sym (ap (mul_mod q c) (E.scale_at q q-positive n d a k l) ∙ sym (mul_mod_assoc q c d (get_or a k 0)) ∙ ap (λ (x : ℕ). mul_mod q x (get_or a k 0)) e
         ∙ ap (λ (x : ℕ). x % q) (one-mul (get_or a k 0)) ∙ mod-eq_of_lt (below_at q q-positive a h.below k))
 
-pub five-of-fifth : (a : List ℕ) → Element a → multiple 5 (multiple fifth a) ≡ a
-five-of-fifth = multiple-twice 5 fifth refl
+pub five_of-fifth : (a : List ℕ) → Element a → multiple 5 (multiple fifth a) ≡ a
+five_of-fifth = multiple_twice 5 fifth refl
 
-pub fifth-of-five : (a : List ℕ) → Element a → multiple fifth (multiple 5 a) ≡ a
-fifth-of-five = multiple-twice fifth 5 refl
+pub fifth_of_five : (a : List ℕ) → Element a → multiple fifth (multiple 5 a) ≡ a
+fifth_of_five = multiple_twice fifth 5 refl
 
 -- ---- inverses
 
@@ -121,34 +121,34 @@ fifth-of-five = multiple-twice fifth 5 refl
 pub inverse-unique : (b i j : List ℕ) → length b ≡ n → Element i → Element j → product b i ≡ one → product b j ≡ one → i ≡ j
 inverse-unique = plain-inverse-unique q q-positive 1023
 
--- so it is `inverseOf`
-pub inverse-is : (b i : List ℕ) → length b ≡ n → Element i → product b i ≡ one → inverseOf b ≡ i
-unfolding inverseOf
-inverse-is b i size h e = by (invertible? b)
+-- so it is `inverse_of`
+pub inverse_is : (b i : List ℕ) → length b ≡ n → Element i → product b i ≡ one → inverse_of b ≡ i
+unfolding inverse_of
+inverse_is b i size h e = by (is_invertible b)
   where
     by : (d : Dec (Invertible b)) → witness b d ≡ i
     by (yes (j, g, f)) = inverse-unique b j i size g h f e
     by (no none) = absurd (none (i, h, e))
 
-pub inverse-none : (b : List ℕ) → ¬ (Invertible b) → inverseOf b ≡ zeros n
-unfolding inverseOf
-inverse-none b none = by (invertible? b)
+pub inverse_none : (b : List ℕ) → ¬ (Invertible b) → inverse_of b ≡ zeros n
+unfolding inverse_of
+inverse_none b none = by (is_invertible b)
   where
     by : (d : Dec (Invertible b)) → witness b d ≡ zeros n
     by (yes i) = absurd (none i)
     by (no f) = refl
 
-pub inverse-times : (b : List ℕ) → Invertible b → Element (inverseOf b) × (product b (inverseOf b) ≡ one)
-unfolding inverseOf
-inverse-times b i = by (invertible? b)
+pub inverse-times : (b : List ℕ) → Invertible b → Element (inverse_of b) × (product b (inverse_of b) ≡ one)
+unfolding inverse_of
+inverse-times b i = by (is_invertible b)
   where
     by : (d : Dec (Invertible b)) → Element (witness b d) × (product b (witness b d) ≡ one)
     by (yes (j, g, f)) = (g, f)
     by (no none) = absurd (none i)
 
-pub length-inverse : (b : List ℕ) → length (inverseOf b) ≡ n
-unfolding inverseOf
-length-inverse b = by (invertible? b)
+pub length-inverse : (b : List ℕ) → length (inverse_of b) ≡ n
+unfolding inverse_of
+length-inverse b = by (is_invertible b)
   where
     by : (d : Dec (Invertible b)) → length (witness b d) ≡ n
     by (yes (j, g, f)) = g.size
@@ -156,13 +156,13 @@ length-inverse b = by (invertible? b)
 
 -- ---- one, as the code builds it
 
-one-from-zeros : (p : ℕ) → set (zeros (suc p)) 0 1 ≡ N.one q (suc p)
+one_from-zeros : (p : ℕ) → set (zeros (suc p)) 0 1 ≡ N.one q (suc p)
 unfolding N.reduced
-one-from-zeros p = table_is (suc p) _ (1 ∷ zeros p) 0 (ap suc (length-replicate p 0)) entry
+one_from-zeros p = table_is (suc p) _ (1 ∷ zeros p) 0 (ap suc (length-replicate p 0)) entry
   where
     entry : (k : ℕ) → k < suc p → get_or (1 ∷ zeros p) k 0 ≡ get_or (1 ∷ []) k 0 % q
     entry zero h = refl
     entry (suc k) h = get_or-replicate p k 0 0 (omega arith)
 
-pub one-is : set (zeros n) 0 1 ≡ one
-one-is = one-from-zeros 1023
+pub one_is : set (zeros n) 0 1 ≡ one
+one_is = one_from-zeros 1023

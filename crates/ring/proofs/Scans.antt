@@ -10,20 +10,20 @@ use native.Mathlib.Omega.{arith}
 use lib.Dec.{leb}
 use lib.ListN.{length}
 use borrow.Author.Tests.{le-leb, lt-leb, leb-true, eq-eqb, eqb-true}
-use Rattle.lists.proofs.Scan.{Scanned, scanned-all, first-none, first_passes}
+use Rattle.lists.proofs.Scan.{Scanned, scanned_all, first-none, first_passes}
 use Rattle.ring.specs.Ring.{q, n}
-use Rattle.ring.specs.Centred.{near?, Within, within?}
+use Rattle.ring.specs.Centred.{is_near, Within, is_within}
 use Rattle.ring.proofs.Centring.{centred-size}
 
 -- ---- one word
 
-pub near-low : (k c : ℕ) → c % q ≤ k → true ≡ near? k c
-unfolding near?
-near-low k c h = sym (rw (centred-size c) (le-leb _ k (omega arith)))
+pub near_low : (k c : ℕ) → c % q ≤ k → true ≡ is_near k c
+unfolding is_near
+near_low k c h = sym (rw (centred-size c) (le-leb _ k (omega arith)))
 
-pub near-high : (k c : ℕ) → k < c % q → leb (q - c % q) k ≡ near? k c
-unfolding near?
-near-high k c h = rw (centred-size c) (by (dec_le (q - c % q) k))
+pub near_high : (k c : ℕ) → k < c % q → leb (q - c % q) k ≡ is_near k c
+unfolding is_near
+near_high k c h = rw (centred-size c) (by (dec_le (q - c % q) k))
   where
     by : Dec (q - c % q ≤ k) → leb (q - c % q) k ≡ leb (min (c % q) (q - c % q)) k
     by (yes l) = le-leb _ k l ∙ sym (le-leb _ k (omega arith))
@@ -31,14 +31,14 @@ near-high k c h = rw (centred-size c) (by (dec_le (q - c % q) k))
 
 -- ---- every word is near
 
-pub within-scanned : (k : ℕ) (a : List ℕ) {all : Bool} {i : ℕ} → Scanned (near? k) a all i → length a ≤ i → all ≡ within? k a
-unfolding within?
-within-scanned k a s h = scanned-all s h
+pub within-scanned : (k : ℕ) (a : List ℕ) {all : Bool} {i : ℕ} → Scanned (is_near k) a all i → length a ≤ i → all ≡ is_within k a
+unfolding is_within
+within-scanned k a s h = scanned_all s h
 
 -- the test is what it says
-pub within-iff : (k : ℕ) (a : List ℕ) → length a ≡ n → (within? k a ≡ true) ↔ Within k a
-unfolding within? near?
-within-iff k a size = (
-  (λ e i h. leb-true _ k (first_passes (near? k) a (le_of_eq (sym (eqb-true _ _ e))) i (omega arith))),
-  (λ w. eq-eqb _ _ (first-none (near? k) a (λ i h. le-leb _ k (w i (omega arith))))),
+pub within_iff : (k : ℕ) (a : List ℕ) → length a ≡ n → (is_within k a ≡ true) ↔ Within k a
+unfolding is_within is_near
+within_iff k a size = (
+  (λ e i h. leb-true _ k (first_passes (is_near k) a (le_of_eq (sym (eqb-true _ _ e))) i (omega arith))),
+  (λ w. eq-eqb _ _ (first-none (is_near k) a (λ i h. le-leb _ k (w i (omega arith))))),
 )

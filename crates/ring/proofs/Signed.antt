@@ -12,10 +12,10 @@ use mir.Syntax.{Width, w16}
 use mir.Val.{hbits, SFits, Fits, to_z, of_z}
 use mir.ValLaws.{to_z_pos, to_z-of_z, sfits_le}
 use Rattle.ring.specs.Ring.{q}
-use Rattle.ring.specs.Centred.{centred, residue, aroundZero, centredRemainder, centredQuotient, remainderOf, quotient_of}
-use Rattle.ring.proofs.Integers.{minus-up, sub-down}
-use Rattle.ring.proofs.Centring.{centred-low, centred-high, centred-bound}
-use Rattle.ring.proofs.RemainderLaws.{around-low, around-high, remainder-small}
+use Rattle.ring.specs.Centred.{centred, residue, around_zero, centred_remainder, centred_quotient, remainder_of, quotient_of}
+use Rattle.ring.proofs.Integers.{minus-up, sub_down}
+use Rattle.ring.proofs.Centring.{centred_low, centred_high, centred-bound}
+use Rattle.ring.proofs.RemainderLaws.{around_low, around_high, remainder-small}
 use Rattle.ring.proofs.QuotientLaws.{quotient-bound}
 
 mag-neg : (k : ℕ) → mag (neg_ℤ (pos k)) ≤ k
@@ -47,8 +47,8 @@ module _ (c : ℕ) where
   abbrev y : ℕ
   y = c % q
 
-  pub centre-low : y ≤ 29696 → to_z w16 y ≡ centred c
-  centre-low h = to_z_pos w16 y (omega arith) ∙ sym (centred-low c h)
+  pub centre_low : y ≤ 29696 → to_z w16 y ≡ centred c
+  centre_low h = to_z_pos w16 y (omega arith) ∙ sym (centred_low c h)
 
   module _ (h : 29696 < y) where
     distance : pos 0 -ℤ to_z w16 (q - y) ≡ neg_ℤ (pos (q - y))
@@ -57,8 +57,8 @@ module _ (c : ℕ) where
     pub centre-fits : SFits w16 (pos 0 -ℤ to_z w16 (q - y))
     centre-fits = record { sfits = rw distance (omega (arith, mag-neg (q - y))) }
 
-    pub centre-high : to_z w16 (of_z w16 (pos 0 -ℤ to_z w16 (q - y))) ≡ centred c
-    centre-high = to_z-of_z w16 _ centre-fits ∙ distance ∙ sym (centred-high c h)
+    pub centre_high : to_z w16 (of_z w16 (pos 0 -ℤ to_z w16 (q - y))) ≡ centred c
+    centre_high = to_z-of_z w16 _ centre-fits ∙ distance ∙ sym (centred_high c h)
 
 -- ---- the machine's remainder of m by d
 
@@ -120,41 +120,41 @@ less_one (suc k) =
     ap (λ (x : ℕ). negsuc (suc x)) e ∙ sym (ap (λ (x : ℕ). neg_ℤ (pos x)) f)
 
 -- above 2 the remainder is 5 too high and the quotient 1 too low
-lower : (m : ℤ) → lt_z (pos 2) (t5 m) ≡ true → (t5 m -ℤ pos 5 ≡ centredRemainder m) × (v5 m +ℤ pos 1 ≡ centredQuotient m)
-unfolding centredRemainder centredQuotient
+lower : (m : ℤ) → lt_z (pos 2) (t5 m) ≡ true → (t5 m -ℤ pos 5 ≡ centred_remainder m) × (v5 m +ℤ pos 1 ≡ centred_quotient m)
+unfolding centred_remainder centred_quotient
 lower (pos a) h =
     let high : 2 < a % 5 = ltb-true 2 (a % 5) h in
-    (minus-up (a % 5) 5 (omega arith) ∙ sym (around-high (a % 5) high (omega arith)), ap pos (omega arith))
+    (minus-up (a % 5) 5 (omega arith) ∙ sym (around_high (a % 5) high (omega arith)), ap pos (omega arith))
 lower (negsuc a) h = absurd (never-above (suc a % 5) h)
 
 -- below - 2 the remainder is 5 too low and the quotient 1 too high
-raise : (m : ℤ) → lt_z (t5 m) (negsuc 1) ≡ true → (t5 m +ℤ pos 5 ≡ centredRemainder m) × (v5 m -ℤ pos 1 ≡ centredQuotient m)
-unfolding centredRemainder centredQuotient
+raise : (m : ℤ) → lt_z (t5 m) (negsuc 1) ≡ true → (t5 m +ℤ pos 5 ≡ centred_remainder m) × (v5 m -ℤ pos 1 ≡ centred_quotient m)
+unfolding centred_remainder centred_quotient
 raise (pos a) h = absurd (true≢false (sym h))
 raise (negsuc a) h =
     let high : 2 < suc a % 5 = below (suc a % 5) h in
     let e : suc a / 5 + 1 ≡ (suc a + 2) / 5 = omega arith in
     (up (suc a % 5) high (omega arith), less_one (suc a / 5) ∙ ap (λ (k : ℕ). neg_ℤ (pos k)) e)
   where
-    up : (r : ℕ) → 2 < r → r < 5 → neg_ℤ (pos r) +ℤ pos 5 ≡ neg_ℤ (aroundZero r)
+    up : (r : ℕ) → 2 < r → r < 5 → neg_ℤ (pos r) +ℤ pos 5 ≡ neg_ℤ (around_zero r)
     up zero h l = absurd (omega arith)
-    up (suc r) h l = sub-down 5 (suc r) (omega arith) ∙ sym (ap neg_ℤ (around-high (suc r) h l) ∙ neg_ℤ-neg_ℤ (pos (5 - suc r)))
+    up (suc r) h l = sub_down 5 (suc r) (omega arith) ∙ sym (ap neg_ℤ (around_high (suc r) h l) ∙ neg_ℤ-neg_ℤ (pos (5 - suc r)))
 
-keep : (m : ℤ) → lt_z (pos 2) (t5 m) ≡ false → lt_z (t5 m) (negsuc 1) ≡ false → (t5 m ≡ centredRemainder m) × (v5 m ≡ centredQuotient m)
-unfolding centredRemainder centredQuotient
+keep : (m : ℤ) → lt_z (pos 2) (t5 m) ≡ false → lt_z (t5 m) (negsuc 1) ≡ false → (t5 m ≡ centred_remainder m) × (v5 m ≡ centred_quotient m)
+unfolding centred_remainder centred_quotient
 keep (pos a) h g =
     let low : a % 5 ≤ 2 = ltb-false 2 (a % 5) h in
-    (sym (around-low (a % 5) low), ap pos (omega arith))
+    (sym (around_low (a % 5) low), ap pos (omega arith))
 keep (negsuc a) h g =
     let low : suc a % 5 ≤ 2 = not-below (suc a % 5) g in
     let e : suc a / 5 ≡ (suc a + 2) / 5 = omega arith in
-    (ap neg_ℤ (sym (around-low (suc a % 5) low)), ap (λ (k : ℕ). neg_ℤ (pos k)) e)
+    (ap neg_ℤ (sym (around_low (suc a % 5) low)), ap (λ (k : ℕ). neg_ℤ (pos k)) e)
 
 -- the quotient is no larger than m
-quotient-mag : (m : ℤ) → mag (centredQuotient m) ≤ mag m
-unfolding centredQuotient
-quotient-mag (pos a) = omega arith
-quotient-mag (negsuc a) = mag_down a ((suc a + 2) / 5) (omega arith)
+quotient_mag : (m : ℤ) → mag (centred_quotient m) ≤ mag m
+unfolding centred_quotient
+quotient_mag (pos a) = omega arith
+quotient_mag (negsuc a) = mag_down a ((suc a + 2) / 5) (omega arith)
 
 -- the same of the code's own t and v
 module _ (m : ℤ) (f : SFits w16 m) where
@@ -164,48 +164,48 @@ module _ (m : ℤ) (f : SFits w16 m) where
   abbrev v : ℤ
   v = v' m f 5 (lit< tt)
 
-  t-is : t ≡ t5 m
-  t-is = machine-remainder m f 5 (lit< tt)
+  t_is : t ≡ t5 m
+  t_is = machine-remainder m f 5 (lit< tt)
 
-  v-is : v ≡ v5 m
-  v-is = machine-quotient m f 5 (lit< tt)
+  v_is : v ≡ v5 m
+  v_is = machine-quotient m f 5 (lit< tt)
 
   -- a remainder and a quotient that were worked out fit, and are read back
-  remainder-fits : (z : ℤ) → z ≡ centredRemainder m → SFits w16 z
-  remainder-fits z e = rw e (sized-fits w16 (centredRemainder m) (omega (arith, remainder-small m)))
+  remainder-fits : (z : ℤ) → z ≡ centred_remainder m → SFits w16 z
+  remainder-fits z e = rw e (sized-fits w16 (centred_remainder m) (omega (arith, remainder-small m)))
 
-  quotient-wide : (z : ℤ) → z ≡ centredQuotient m → SFits w16 z
-  quotient-wide z e = rw e (sfits_le (quotient-mag m) f)
+  quotient_wide : (z : ℤ) → z ≡ centred_quotient m → SFits w16 z
+  quotient_wide z e = rw e (sfits_le (quotient_mag m) f)
 
-  lowered : lt_z (pos 2) t ≡ true → (t -ℤ pos 5 ≡ centredRemainder m) × (v +ℤ pos 1 ≡ centredQuotient m)
-  lowered h = rw (t-is, v-is) (lower m (ap (lt_z (pos 2)) (sym t-is) ∙ h))
+  lowered : lt_z (pos 2) t ≡ true → (t -ℤ pos 5 ≡ centred_remainder m) × (v +ℤ pos 1 ≡ centred_quotient m)
+  lowered h = rw (t_is, v_is) (lower m (ap (lt_z (pos 2)) (sym t_is) ∙ h))
 
-  raised : lt_z t (negsuc 1) ≡ true → (t +ℤ pos 5 ≡ centredRemainder m) × (v -ℤ pos 1 ≡ centredQuotient m)
-  raised h = rw (t-is, v-is) (raise m (ap (λ (z : ℤ). lt_z z (negsuc 1)) (sym t-is) ∙ h))
+  raised : lt_z t (negsuc 1) ≡ true → (t +ℤ pos 5 ≡ centred_remainder m) × (v -ℤ pos 1 ≡ centred_quotient m)
+  raised h = rw (t_is, v_is) (raise m (ap (λ (z : ℤ). lt_z z (negsuc 1)) (sym t_is) ∙ h))
 
   pub lowered-fits : lt_z (pos 2) t ≡ true → SFits w16 (t -ℤ pos 5)
   lowered-fits h = remainder-fits _ (lowered h).0
 
   pub lowered-quotient-fits : lt_z (pos 2) t ≡ true → SFits w16 (v +ℤ pos 1)
-  lowered-quotient-fits h = quotient-wide _ (lowered h).1
+  lowered-quotient-fits h = quotient_wide _ (lowered h).1
 
   pub raised-fits : lt_z t (negsuc 1) ≡ true → SFits w16 (t +ℤ pos 5)
   raised-fits h = remainder-fits _ (raised h).0
 
   pub raised-quotient-fits : lt_z t (negsuc 1) ≡ true → SFits w16 (v -ℤ pos 1)
-  raised-quotient-fits h = quotient-wide _ (raised h).1
+  raised-quotient-fits h = quotient_wide _ (raised h).1
 
   pub lowered_is : lt_z (pos 2) t ≡ true
-      → (to_z w16 (of_z w16 (t -ℤ pos 5)) ≡ centredRemainder m) × (to_z w16 (of_z w16 (v +ℤ pos 1)) ≡ centredQuotient m)
+      → (to_z w16 (of_z w16 (t -ℤ pos 5)) ≡ centred_remainder m) × (to_z w16 (of_z w16 (v +ℤ pos 1)) ≡ centred_quotient m)
   lowered_is h = (to_z-of_z w16 _ (lowered-fits h) ∙ (lowered h).0, to_z-of_z w16 _ (lowered-quotient-fits h) ∙ (lowered h).1)
 
   pub raised_is : lt_z t (negsuc 1) ≡ true
-      → (to_z w16 (of_z w16 (t +ℤ pos 5)) ≡ centredRemainder m) × (to_z w16 (of_z w16 (v -ℤ pos 1)) ≡ centredQuotient m)
+      → (to_z w16 (of_z w16 (t +ℤ pos 5)) ≡ centred_remainder m) × (to_z w16 (of_z w16 (v -ℤ pos 1)) ≡ centred_quotient m)
   raised_is h = (to_z-of_z w16 _ (raised-fits h) ∙ (raised h).0, to_z-of_z w16 _ (raised-quotient-fits h) ∙ (raised h).1)
 
-  pub kept-is : lt_z (pos 2) t ≡ false → lt_z t (negsuc 1) ≡ false → (t ≡ centredRemainder m) × (v ≡ centredQuotient m)
-  kept-is h g =
-      rw (t-is, v-is) (keep m (ap (lt_z (pos 2)) (sym t-is) ∙ h) (ap (λ (z : ℤ). lt_z z (negsuc 1)) (sym t-is) ∙ g))
+  pub kept_is : lt_z (pos 2) t ≡ false → lt_z t (negsuc 1) ≡ false → (t ≡ centred_remainder m) × (v ≡ centred_quotient m)
+  kept_is h g =
+      rw (t_is, v_is) (keep m (ap (lt_z (pos 2)) (sym t_is) ∙ h) (ap (λ (z : ℤ). lt_z z (negsuc 1)) (sym t_is) ∙ g))
 
 -- ---- the residue modulo q of an integer of 16 bits: below 0 it is as far below q
 
@@ -214,7 +214,7 @@ unfolding residue
 negative (pos a) f h = absurd (omega (arith, ltb-true a 0 h))
 negative (negsuc a) f h =
     let e : suc a - 1 ≡ a = omega arith in
-    (sub-down (suc a) 1 (omega arith) ∙ ap pos e, omega arith)
+    (sub_down (suc a) 1 (omega arith) ∙ ap pos e, omega arith)
 
 natural : (m : ℤ) → mag m < 32768 → lt_z m (pos 0) ≡ false → (m ≡ pos (mag m)) × (mag m ≡ residue m)
 unfolding residue
@@ -226,30 +226,30 @@ module _ (m : ℤ) (f : SFits w16 m) where
   abbrev r : ℤ
   r = to_z w16 (of_z w16 m)
 
-  r-is : r ≡ m
-  r-is = to_z-of_z w16 m f
+  r_is : r ≡ m
+  r_is = to_z-of_z w16 m f
 
   tested : {b : Bool} → lt_z r (pos 0) ≡ b → lt_z m (pos 0) ≡ b
-  tested h = ap (λ (z : ℤ). lt_z z (pos 0)) (sym r-is) ∙ h
+  tested h = ap (λ (z : ℤ). lt_z z (pos 0)) (sym r_is) ∙ h
 
   away : lt_z r (pos 0) ≡ true → negsuc 0 -ℤ r ≡ pos (mag m)
-  away h = ap (λ (z : ℤ). negsuc 0 -ℤ z) r-is ∙ (negative m f.sfits (tested h)).0
+  away h = ap (λ (z : ℤ). negsuc 0 -ℤ z) r_is ∙ (negative m f.sfits (tested h)).0
 
   pub away-fits : lt_z r (pos 0) ≡ true → SFits w16 (negsuc 0 -ℤ r)
   away-fits h = rw (away h) (record { sfits = f.sfits })
 
-  pub away-is : lt_z r (pos 0) ≡ true → to_z w16 (of_z w16 (negsuc 0 -ℤ r)) ≡ pos (mag m)
-  away-is h = to_z-of_z w16 _ (away-fits h) ∙ away h
+  pub away_is : lt_z r (pos 0) ≡ true → to_z w16 (of_z w16 (negsuc 0 -ℤ r)) ≡ pos (mag m)
+  away_is h = to_z-of_z w16 _ (away-fits h) ∙ away h
 
   pub stays : lt_z r (pos 0) ≡ false → r ≡ pos (mag m)
-  stays h = r-is ∙ (natural m f.sfits (tested h)).0
+  stays h = r_is ∙ (natural m f.sfits (tested h)).0
 
   -- what was worked out is a u16
   pub size_word : (z : ℤ) → z ≡ pos (mag m) → T (non_neg z) × Fits w16 (nat_abs z)
   size_word z e = rw e (tt, record { fits = omega (arith, f.sfits) })
 
   pub negative-residue : lt_z r (pos 0) ≡ true → q - 1 - nat_abs (to_z w16 (of_z w16 (negsuc 0 -ℤ r))) ≡ residue m
-  negative-residue h = ap (λ (z : ℤ). q - 1 - nat_abs z) (away-is h) ∙ (negative m f.sfits (tested h)).1
+  negative-residue h = ap (λ (z : ℤ). q - 1 - nat_abs z) (away_is h) ∙ (negative m f.sfits (tested h)).1
 
   pub natural-residue : lt_z r (pos 0) ≡ false → nat_abs r ≡ residue m
   natural-residue h = ap nat_abs (stays h) ∙ (natural m f.sfits (tested h)).1
@@ -261,20 +261,20 @@ pub quotient-read : (c : ℕ) {v : ℤ} → v ≡ quotient_of c → to_z w16 (of
 quotient-read c {v} e = to_z-of_z w16 v (rw e (sized-fits w16 (quotient_of c) (omega (arith, quotient-bound c)))) ∙ e
 
 -- m is a centred value, e and v are its remainder and its quotient
-module _ (c : ℕ) {m e v : ℤ} (em : m ≡ centred c) (divided : (e ≡ centredRemainder (to_z w16 (of_z w16 m))) × (v ≡ centredQuotient (to_z w16 (of_z w16 m)))) where
+module _ (c : ℕ) {m e v : ℤ} (em : m ≡ centred c) (divided : (e ≡ centred_remainder (to_z w16 (of_z w16 m))) × (v ≡ centred_quotient (to_z w16 (of_z w16 m)))) where
   read-centred : to_z w16 (of_z w16 m) ≡ centred c
   read-centred = to_z-of_z w16 m (rw em (sized-fits w16 (centred c) (omega (arith, centred-bound c)))) ∙ em
 
-  remainder_is : e ≡ centredRemainder (centred c)
-  remainder_is = divided.0 ∙ ap centredRemainder read-centred
+  remainder_is : e ≡ centred_remainder (centred c)
+  remainder_is = divided.0 ∙ ap centred_remainder read-centred
 
   quotient_is : v ≡ quotient_of c
   unfolding quotient_of
-  quotient_is = divided.1 ∙ ap centredQuotient read-centred
+  quotient_is = divided.1 ∙ ap centred_quotient read-centred
 
-  pub remainder-chain : {r : ℕ} → r ≡ residue (to_z w16 (of_z w16 e)) → r ≡ remainderOf c
-  unfolding remainderOf
-  remainder-chain er = er ∙ ap residue (to_z-of_z w16 e (rw remainder_is (sized-fits w16 (centredRemainder (centred c)) (omega (arith, remainder-small (centred c))))) ∙ remainder_is)
+  pub remainder_chain : {r : ℕ} → r ≡ residue (to_z w16 (of_z w16 e)) → r ≡ remainder_of c
+  unfolding remainder_of
+  remainder_chain er = er ∙ ap residue (to_z-of_z w16 e (rw remainder_is (sized-fits w16 (centred_remainder (centred c)) (omega (arith, remainder-small (centred c))))) ∙ remainder_is)
 
-  pub quotient-chain : to_z w16 (of_z w16 v) ≡ quotient_of c
-  quotient-chain = quotient-read c quotient_is
+  pub quotient_chain : to_z w16 (of_z w16 v) ≡ quotient_of c
+  quotient_chain = quotient-read c quotient_is

@@ -14,8 +14,8 @@ use Rattle.ring.specs.Centred.{Ternary}
 use Rattle.ring.proofs.Centring.{centred-size}
 
 -- the coefficients are 0, 1 and q - 1
-pub ternary-entry : (a : List ℕ) → Ternary a → (i : ℕ) → i < n → (get_or a i 0 ≡ 0) ⊎ (get_or a i 0 ≡ 1) ⊎ (get_or a i 0 ≡ q - 1)
-ternary-entry a t i h = by (dec_lt (get_or a i 0) 1) (dec_lt (get_or a i 0) 2)
+pub ternary_entry : (a : List ℕ) → Ternary a → (i : ℕ) → i < n → (get_or a i 0 ≡ 0) ⊎ (get_or a i 0 ≡ 1) ⊎ (get_or a i 0 ≡ q - 1)
+ternary_entry a t i h = by (dec_lt (get_or a i 0) 1) (dec_lt (get_or a i 0) 2)
   where
     below : get_or a i 0 < q
     below = below_at q q-positive a t.0.below i

@@ -9,17 +9,17 @@ use Rattle.ring.specs.Ring.{n, one, product, Invertible}
 
 -- Decided for every list, with the inverse as witness. Crate algebra finds it by a transform; the type says all that counts: an inverse, or
 -- the proof that there is none. Law `inverse-unique` says that there is one inverse at most.
-pub invertible? : (b : List ℕ) → Dec (Invertible b)
-invertible? b = N.invertible? q-positive negacyclic-root b
+pub is_invertible : (b : List ℕ) → Dec (Invertible b)
+is_invertible b = N.is_invertible q-positive negacyclic-root b
 
 abbrev pub witness : (b : List ℕ) → Dec (Invertible b) → List ℕ
 witness b (yes i) = i.0
 witness b (no none) = zeros n
 
 -- the inverse of b; 1,024 zeros where there is none
-unfoldable pub inverseOf : List ℕ → List ℕ
-inverseOf b = witness b (invertible? b)
+unfoldable pub inverse_of : List ℕ → List ℕ
+inverse_of b = witness b (is_invertible b)
 
 -- b × i = 1, decided for every two lists
-pub inverse? : (b i : List ℕ) → Dec (product b i ≡ one)
-inverse? b i = List-discrete ℕ_discrete (product b i) one
+pub is_inverse : (b i : List ℕ) → Dec (product b i ≡ one)
+is_inverse b i = List-discrete ℕ_discrete (product b i) one

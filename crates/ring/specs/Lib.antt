@@ -1,4 +1,4 @@
--- Definitions that the contracts cite. A product is the plain sum over pairs. Only `invertible?` is made by a transform, and its type,
+-- Definitions that the contracts cite. A product is the plain sum over pairs. Only `is_invertible` is made by a transform, and its type,
 -- `Dec (Invertible b)`, fixes the answer whatever way it is found.
 pub mod Ring
 pub mod Invertible

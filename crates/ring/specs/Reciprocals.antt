@@ -1,3 +1,3 @@
 -- The reciprocals of a spectrum, and whether they exist: as in crate reciprocals.
-pub use Rattle.reciprocals.specs.Reciprocals.{nonzero?}
-unfoldable pub use Rattle.reciprocals.specs.Reciprocals.{hasZero, reciprocalsOf}
+pub use Rattle.reciprocals.specs.Reciprocals.{is_nonzero}
+unfoldable pub use Rattle.reciprocals.specs.Reciprocals.{has_zero, reciprocals_of}

@@ -3,11 +3,11 @@
 // The reciprocals of a spectrum, and the test whether there are any, are those of crate reciprocals.
 ghost use Rattle.std.specs.Prelude.{◌≡◌};
 ghost use Rattle.std.proofs.Math.Bool.{decide};
-ghost use Rattle.ntt.specs.Spectrum.{coefficientsOf};
-ghost use Rattle.ntt.specs.Factors.{forwardFactors, backwardFactors};
+ghost use Rattle.ntt.specs.Spectrum.{coefficients_of};
+ghost use Rattle.ntt.specs.Factors.{forward_factors, backward_factors};
 ghost use Rattle.ring.specs.Ring.{one, sum, difference, multiple, product};
-ghost use Rattle.ring.specs.Invertible.{invertible?, inverseOf, inverse?};
-ghost use Rattle.ring.specs.Centred.{centred, residue, centredRemainder, centredQuotient, remainderOf, quotient_of, remainders, quotients, near?, within?};
+ghost use Rattle.ring.specs.Invertible.{is_invertible, inverse_of, is_inverse};
+ghost use Rattle.ring.specs.Centred.{centred, residue, centred_remainder, centred_quotient, remainder_of, quotient_of, remainders, quotients, is_near, is_within};
 ghost use Rattle.ring.specs.Division.{DivisionExact};
 
 use modq::Q;
@@ -75,7 +75,7 @@ pub struct Division {
 // m = remainder + 5 × quotient, with the remainder between - 2 and 2. That of the machine has the sign of m and is between - 4 and 4, and its
 // quotient is rounded toward zero: where the remainder moves by 5, the quotient moves by 1.
 pub fn centred_division(m: i16) -> Division
-    ensures { (result.remainder ≡ centredRemainder m) × (result.quotient ≡ centredQuotient m) }
+    ensures { (result.remainder ≡ centred_remainder m) × (result.quotient ≡ centred_quotient m) }
 {
     let t = m % 5;
     let v = m / 5;
@@ -120,7 +120,7 @@ struct CoefficientDivision {
 }
 
 fn divide_coefficient(c: u16) -> CoefficientDivision
-    ensures { (result.remainder ≡ remainderOf c) × (result.quotient ≡ quotient_of c) }
+    ensures { (result.remainder ≡ remainder_of c) × (result.quotient ≡ quotient_of c) }
 {
     let m = centred(c);
     let d = centred_division(m);
@@ -165,7 +165,7 @@ pub fn divide_by_5(m: Element) -> ElementDivision
 
 // Whether the centred value of x is between - k and k.
 fn is_near(x: u16, k: u16) -> bool
-    ensures { result ≡ near? k x }
+    ensures { result ≡ is_near k x }
 {
     let y = modq::reduce(x);
     if y <= k {
@@ -177,7 +177,7 @@ fn is_near(x: u16, k: u16) -> bool
 // Whether every centred coefficient is between - k and k; with k = 1 document 01's short. It looks at all of them. That no time
 // tells which one failed is so of the compiled code, which has no branch here, and not of this text: `is_near` returns early.
 pub fn is_within(a: Element, k: u16) -> bool
-    ensures { result ≡ within? k a }
+    ensures { result ≡ is_within k a }
 {
     let mut all = true;
     for i in 0..DEGREE {
@@ -192,14 +192,14 @@ pub fn is_within(a: Element, k: u16) -> bool
 
 // The product of the two elements with the spectra x and y.
 pub fn product_of_spectra(x: Spectrum, y: Spectrum, backward: &[u16]) -> Element
-    requires { backward.now ≡ backwardFactors }
-    ensures { result ≡ product (coefficientsOf x) (coefficientsOf y) }
+    requires { backward.now ≡ backward_factors }
+    ensures { result ≡ product (coefficients_of x) (coefficients_of y) }
 {
     ntt::backward_product(x, y, backward)
 }
 
 pub fn product_with(a: Element, b: Element, forward: &[u16], backward: &[u16]) -> Element
-    requires { (forward.now ≡ forwardFactors) × (backward.now ≡ backwardFactors) }
+    requires { (forward.now ≡ forward_factors) × (backward.now ≡ backward_factors) }
     ensures { result ≡ product a b }
 {
     let x = ntt::forward(a, forward);
@@ -225,8 +225,8 @@ pub struct Inversion {
 }
 
 pub fn inverse_with(b: Element, forward: &[u16], backward: &[u16]) -> Inversion
-    requires { (forward.now ≡ forwardFactors) × (backward.now ≡ backwardFactors) }
-    ensures { (result.exists ≡ decide (invertible? b)) × (result.value ≡ inverseOf b) }
+    requires { (forward.now ≡ forward_factors) × (backward.now ≡ backward_factors) }
+    ensures { (result.exists ≡ decide (is_invertible b)) × (result.value ≡ inverse_of b) }
 {
     let t = ntt::forward(b, forward);
     if has_zero(t) {
@@ -243,7 +243,7 @@ pub fn inverse_with(b: Element, forward: &[u16], backward: &[u16]) -> Inversion
 }
 
 pub fn inverse(b: Element) -> Inversion
-    ensures { (result.exists ≡ decide (invertible? b)) × (result.value ≡ inverseOf b) }
+    ensures { (result.exists ≡ decide (is_invertible b)) × (result.value ≡ inverse_of b) }
 {
     let mut w = [0u16; FACTORS];
     let mut v = [0u16; FACTORS];
@@ -254,7 +254,7 @@ pub fn inverse(b: Element) -> Inversion
 
 // Whether the elements with the spectra x and y are inverse to each other: every product of two entries is then 1. It looks at all of them.
 pub fn are_inverses(x: Spectrum, y: Spectrum) -> bool
-    ensures { result ≡ decide (inverse? (coefficientsOf x) (coefficientsOf y)) }
+    ensures { result ≡ decide (is_inverse (coefficients_of x) (coefficients_of y)) }
 {
     reciprocals::are_reciprocals(x, y)
 }

@@ -3,59 +3,59 @@
 use Rattle.std.specs.Prelude.{Bool, ◌&&◌, cond, List, [], ◌∷◌, ℕ, eqb}
 use Rattle.std.proofs.Math.Bool.{decide}
 use Rattle.ring.specs.Ring.{product}
-use Rattle.ring.specs.Invertible.{invertible?, inverseOf}
-use Rattle.encoding.specs.Words.{elementLength, elementOf}
+use Rattle.ring.specs.Invertible.{is_invertible, inverse_of}
+use Rattle.encoding.specs.Words.{element_length, element_of}
 use Rattle.vectors.specs.declared.Verdict.{Verdict}
-use Rattle.vectors.specs.Fields.{word32, field, sized?}
-use Rattle.vectors.specs.Answers.{same?, verdictOf}
-use Rattle.remainder_cases.specs.Remainders.{remainderAgrees?}
+use Rattle.vectors.specs.Fields.{word32, field, is_sized}
+use Rattle.vectors.specs.Answers.{is_same, verdict_of}
+use Rattle.remainder_cases.specs.Remainders.{remainder_agrees}
 use Rattle.ring_cases.specs.declared.Kind.{Kind}
 use Rattle.ring_cases.specs.declared.Kind.TheVariants.{Products, Inverses, Remainders}
 
 -- the size of an inverse, by whether there is one
-abbrev pub inverseSize : Bool → ℕ
-inverseSize exists = cond exists elementLength 0
+abbrev pub inverse_size : Bool → ℕ
+inverse_size exists = cond exists element_length 0
 
 -- the sizes of the fields; there is an inverse where the number is 0
-abbrev pub sizesOf : Kind → List ℕ → List ℕ
-sizesOf Products text = elementLength ∷ elementLength ∷ 4 ∷ 0 ∷ elementLength ∷ []
-sizesOf Inverses text = elementLength ∷ 4 ∷ 0 ∷ inverseSize (eqb (word32 (field 1 text)) 0) ∷ []
-sizesOf Remainders text = 4 ∷ 4 ∷ 0 ∷ 4 ∷ 4 ∷ 4 ∷ []
+abbrev pub sizes_of : Kind → List ℕ → List ℕ
+sizes_of Products text = element_length ∷ element_length ∷ 4 ∷ 0 ∷ element_length ∷ []
+sizes_of Inverses text = element_length ∷ 4 ∷ 0 ∷ inverse_size (eqb (word32 (field 1 text)) 0) ∷ []
+sizes_of Remainders text = 4 ∷ 4 ∷ 0 ∷ 4 ∷ 4 ∷ 4 ∷ []
 
 -- how many fields a case has
-abbrev pub fieldCount : Kind → ℕ
-fieldCount Products = 5
-fieldCount Inverses = 4
-fieldCount Remainders = 6
+abbrev pub field_count : Kind → ℕ
+field_count Products = 5
+field_count Inverses = 4
+field_count Remainders = 6
 
-abbrev pub case? : Kind → List ℕ → Bool
-case? kind text = sized? (sizesOf kind text) text
+abbrev pub is_case : Kind → List ℕ → Bool
+is_case kind text = is_sized (sizes_of kind text) text
 
 -- ---- products
 
-abbrev pub productAgrees? : List ℕ → Bool
-productAgrees? text =
-    eqb (word32 (field 2 text)) 0 && same? (product (elementOf (field 0 text)) (elementOf (field 1 text))) (elementOf (field 4 text))
+abbrev pub product_agrees : List ℕ → Bool
+product_agrees text =
+    eqb (word32 (field 2 text)) 0 && is_same (product (element_of (field 0 text)) (element_of (field 1 text))) (element_of (field 4 text))
 
 -- ---- inverses
 
 -- the number by whether there is an inverse
-abbrev pub inverseNumber : Bool → ℕ
-inverseNumber exists = cond exists 0 6
+abbrev pub inverse_number : Bool → ℕ
+inverse_number exists = cond exists 0 6
 
 -- where there is none, the empty field stands for 1,024 zeros
-abbrev pub inverseAgrees? : List ℕ → Bool
-inverseAgrees? text =
-    eqb (word32 (field 1 text)) (inverseNumber (decide (invertible? (elementOf (field 0 text)))))
-    && same? (inverseOf (elementOf (field 0 text))) (elementOf (field 3 text))
+abbrev pub inverse_agrees : List ℕ → Bool
+inverse_agrees text =
+    eqb (word32 (field 1 text)) (inverse_number (decide (is_invertible (element_of (field 0 text)))))
+    && is_same (inverse_of (element_of (field 0 text))) (element_of (field 3 text))
 
 -- ---- of any kind
 
-abbrev pub agrees? : Kind → List ℕ → Bool
-agrees? Products text = productAgrees? text
-agrees? Inverses text = inverseAgrees? text
-agrees? Remainders text = remainderAgrees? text
+abbrev pub agrees : Kind → List ℕ → Bool
+agrees Products text = product_agrees text
+agrees Inverses text = inverse_agrees text
+agrees Remainders text = remainder_agrees text
 
 -- the verdict on the case that a text starts with
 abbrev pub verdict : Kind → List ℕ → Verdict
-verdict kind text = verdictOf (case? kind text) (agrees? kind text)
+verdict kind text = verdict_of (is_case kind text) (agrees kind text)

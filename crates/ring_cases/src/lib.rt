@@ -1,10 +1,10 @@
 // The cases of products, inverses and remainders of the ring: when one agrees, and the report on a text of them.
 ghost use Rattle.std.specs.Prelude.{◌≡◌};
-ghost use Rattle.ntt.specs.Factors.{forwardFactors, backwardFactors};
-ghost use Rattle.encoding.specs.Words.{elementOf};
+ghost use Rattle.ntt.specs.Factors.{forward_factors, backward_factors};
+ghost use Rattle.encoding.specs.Words.{element_of};
 ghost use Rattle.vectors.specs.Fields.{field};
-ghost use Rattle.vectors.specs.Answers.{same?, report};
-ghost use Rattle.ring_cases.specs.Cases.{inverseSize, fieldCount, case?, productAgrees?, inverseNumber, inverseAgrees?, agrees?, verdict};
+ghost use Rattle.vectors.specs.Answers.{is_same, report};
+ghost use Rattle.ring_cases.specs.Cases.{inverse_size, field_count, is_case, product_agrees, inverse_number, inverse_agrees, agrees, verdict};
 
 use encoding::ELEMENT_LENGTH;
 use ntt::{DEGREE, Element, FACTORS};
@@ -22,13 +22,13 @@ pub enum Kind {
 
 // The element in field i.
 fn element(text: &[u8], i: usize) -> Element
-    ensures { result ≡ elementOf (field i text.now) }
+    ensures { result ≡ element_of (field i text.now) }
 {
     encoding::decode_element(vectors::field(text, i))
 }
 
 fn same_elements(a: Element, b: Element) -> bool
-    ensures { result ≡ same? a b }
+    ensures { result ≡ is_same a b }
 {
     for k in 0..DEGREE {
         if a[k] != b[k] {
@@ -41,8 +41,8 @@ fn same_elements(a: Element, b: Element) -> bool
 // ---- when a case agrees. The tables of factors are lent, so that they are made once a file.
 
 fn product_agrees(text: &[u8], forward: &[u16], backward: &[u16]) -> bool
-    requires { (forward.now ≡ forwardFactors) × (backward.now ≡ backwardFactors) }
-    ensures { result ≡ productAgrees? text.now }
+    requires { (forward.now ≡ forward_factors) × (backward.now ≡ backward_factors) }
+    ensures { result ≡ product_agrees text.now }
 {
     let f = element(text, 0);
     let g = element(text, 1);
@@ -53,14 +53,14 @@ fn product_agrees(text: &[u8], forward: &[u16], backward: &[u16]) -> bool
 
 // The number of a case, by whether there is an inverse.
 fn inverse_number(exists: bool) -> u32
-    ensures { result ≡ inverseNumber exists }
+    ensures { result ≡ inverse_number exists }
 {
     if exists { 0 } else { 6 }
 }
 
 fn inverse_agrees(text: &[u8], forward: &[u16], backward: &[u16]) -> bool
-    requires { (forward.now ≡ forwardFactors) × (backward.now ≡ backwardFactors) }
-    ensures { result ≡ inverseAgrees? text.now }
+    requires { (forward.now ≡ forward_factors) × (backward.now ≡ backward_factors) }
+    ensures { result ≡ inverse_agrees text.now }
 {
     let found = ring::inverse_with(element(text, 0), forward, backward);
     let value = found.value;
@@ -69,8 +69,8 @@ fn inverse_agrees(text: &[u8], forward: &[u16], backward: &[u16]) -> bool
 }
 
 fn agrees(kind: Kind, text: &[u8], forward: &[u16], backward: &[u16]) -> bool
-    requires { (forward.now ≡ forwardFactors) × (backward.now ≡ backwardFactors) }
-    ensures { result ≡ agrees? kind text.now }
+    requires { (forward.now ≡ forward_factors) × (backward.now ≡ backward_factors) }
+    ensures { result ≡ agrees kind text.now }
 {
     match kind {
         Kind::Products => product_agrees(text, forward, backward),
@@ -83,13 +83,13 @@ fn agrees(kind: Kind, text: &[u8], forward: &[u16], backward: &[u16]) -> bool
 
 // The size of an inverse, by whether there is one.
 fn inverse_size(exists: bool) -> usize
-    ensures { result ≡ inverseSize exists }
+    ensures { result ≡ inverse_size exists }
 {
     if exists { ELEMENT_LENGTH } else { 0 }
 }
 
 fn is_case(kind: Kind, text: &[u8]) -> bool
-    ensures { result ≡ case? kind text.now }
+    ensures { result ≡ is_case kind text.now }
 {
     match kind {
         Kind::Products => {
@@ -109,14 +109,14 @@ fn is_case(kind: Kind, text: &[u8]) -> bool
 }
 
 fn judge(kind: Kind, text: &[u8], forward: &[u16], backward: &[u16]) -> Verdict
-    requires { (forward.now ≡ forwardFactors) × (backward.now ≡ backwardFactors) }
+    requires { (forward.now ≡ forward_factors) × (backward.now ≡ backward_factors) }
     ensures { result ≡ verdict kind text.now }
 {
     vectors::judged(is_case(kind, text), agrees(kind, text, forward, backward))
 }
 
 fn field_count(kind: Kind) -> usize
-    ensures { result ≡ fieldCount kind }
+    ensures { result ≡ field_count kind }
 {
     match kind {
         Kind::Products => 5,
@@ -126,8 +126,8 @@ fn field_count(kind: Kind) -> usize
 }
 
 fn judge_cases(kind: Kind, text: &[u8], forward: &[u16], backward: &[u16]) -> Report
-    requires { (forward.now ≡ forwardFactors) × (backward.now ≡ backwardFactors) }
-    ensures { result ≡ report (verdict kind) (fieldCount kind) text.now }
+    requires { (forward.now ≡ forward_factors) × (backward.now ≡ backward_factors) }
+    ensures { result ≡ report (verdict kind) (field_count kind) text.now }
 {
     let fields = field_count(kind);
     let mut report = Report::Counts(0, 0);
@@ -142,7 +142,7 @@ fn judge_cases(kind: Kind, text: &[u8], forward: &[u16], backward: &[u16]) -> Re
 }
 
 pub fn judge_file(kind: Kind, text: &[u8]) -> Report
-    ensures { result ≡ report (verdict kind) (fieldCount kind) text.now }
+    ensures { result ≡ report (verdict kind) (field_count kind) text.now }
 {
     let mut forward = [0u16; FACTORS];
     let mut backward = [0u16; FACTORS];

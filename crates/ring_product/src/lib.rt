@@ -1,6 +1,6 @@
 // The product of the ring over bytes, for C: no call of crate `polka` is a product alone, and the benchmark times one.
 ghost use Rattle.std.specs.Prelude.{◌≡◌};
-ghost use Rattle.ring_product.specs.Product.{productNumber, productOut};
+ghost use Rattle.ring_product.specs.Product.{product_number, product_out};
 
 use encoding::ELEMENT_LENGTH;
 
@@ -8,8 +8,8 @@ use encoding::ELEMENT_LENGTH;
 // It answers 0; where one of the three has another length it answers 1 and leaves `out` as it came.
 #[unsafe(no_mangle)]
 pub extern "C" fn ring_product(a: &[u8], b: &[u8], out: &mut [u8]) -> u32
-    ensures value { result ≡ productNumber a.now b.now out.old }
-    ensures out_after { out.new ≡ productOut a.now b.now out.old }
+    ensures value { result ≡ product_number a.now b.now out.old }
+    ensures out_after { out.new ≡ product_out a.now b.now out.old }
 {
     let fits = (a.len() == ELEMENT_LENGTH)
         & (b.len() == ELEMENT_LENGTH)

@@ -14,8 +14,8 @@ use Rattle.modq.proofs.Prime.{q-positive}
 use Rattle.algebra.proofs.Numbers.{below-append}
 use Rattle.ring.specs.Ring.{q, n, Element}
 use Rattle.encoding.specs.Words.{word_at, words}
-use Rattle.encoding.proofs.Words.{length-words, words-entry, words_append}
-use Rattle.sampling.specs.Stream.{reduced, taken_of, uniformOf, taken, uniformElement}
+use Rattle.encoding.proofs.Words.{length-words, words_entry, words_append}
+use Rattle.sampling.specs.Stream.{reduced, taken_of, uniform_of, taken, uniform_element}
 
 -- ---- words below q
 
@@ -32,9 +32,9 @@ module _ (q : ℕ) where
       by (yes l) = refl
       by (no l) = absurd (l h)
 
-  pub reduced-pass : (w : ℕ) → q ≤ w → reduced q (w ∷ []) ≡ []
+  pub reduced_pass : (w : ℕ) → q ≤ w → reduced q (w ∷ []) ≡ []
   unfolding reduced
-  reduced-pass w h = by (dec_lt w q)
+  reduced_pass w h = by (dec_lt w q)
     where
       by : (d : Dec (w < q)) → ite {C = List ℕ} d (w ∷ []) [] ≡ []
       by (yes l) = absurd (omega arith)
@@ -56,7 +56,7 @@ stream-words stream = length-words (take 2688 stream) ∙ ap (λ (k : ℕ). k / 
 
 pub stream-word : (stream : List ℕ) (i : ℕ) → i < 1344 → 2 * i + 1 < length stream → get_or (words (take 2688 stream)) i 0 ≡ word_at stream i
 stream-word stream i h l =
-    words-entry (take 2688 stream) i (omega (arith, length-take 2688 stream))
+    words_entry (take 2688 stream) i (omega (arith, length-take 2688 stream))
     ∙ ap₂ (λ (x y : ℕ). x + 256 * y) (get_or-take 2688 stream (2 * i) 0 (omega arith)) (get_or-take 2688 stream (2 * i + 1) 0 (omega arith))
 
 -- ---- what is sampled: up to n words below q
@@ -80,18 +80,18 @@ module _ (q n : ℕ) where
   taken-most stream = rw (length-take n (reduced q (words (take 2688 stream)))) (omega arith)
 
   -- any stream gives an element; where n words are taken it is these words
-  pub uniformOf-element : 0 < q → (stream : List ℕ) → N.Element q n (uniformOf q n stream)
-  unfolding uniformOf
-  uniformOf-element pos stream =
+  pub uniform_of-element : 0 < q → (stream : List ℕ) → N.Element q n (uniform_of q n stream)
+  unfolding uniform_of
+  uniform_of-element pos stream =
       let ws : List ℕ = taken_of q n stream in
       record {
         size = length-append ws (zeros (n - length ws)) ∙ ap (λ (k : ℕ). length ws + k) (length-replicate (n - length ws) 0) ∙ omega (arith, taken-most stream);
         below = below-append q ws (zeros (n - length ws)) (taken-below stream) (below-zeros q pos (n - length ws));
       }
 
-  pub uniformOf-full : (stream : List ℕ) → length (taken_of q n stream) ≡ n → uniformOf q n stream ≡ taken_of q n stream
-  unfolding uniformOf
-  uniformOf-full stream e =
+  pub uniform_of_full : (stream : List ℕ) → length (taken_of q n stream) ≡ n → uniform_of q n stream ≡ taken_of q n stream
+  unfolding uniform_of
+  uniform_of_full stream e =
       let none : n - length (taken_of q n stream) ≡ 0 = omega arith in
       rw none (append-nil (taken_of q n stream))
 
@@ -109,19 +109,19 @@ module _ (q n : ℕ) where
       rw (cut, all, words_append front behind even, reduced-append q (words front) (words behind))
       (take-append-le n (reduced q (words front)) (reduced q (words behind)) (rw all at enough))
 
-  pub uniformOf-front : (front rest : List ℕ) → length front % 2 ≡ 0 → length front ≤ 2688 → length (taken_of q n front) ≡ n
-      → uniformOf q n (front ++ rest) ≡ uniformOf q n front
-  unfolding uniformOf
-  uniformOf-front front rest even short full = ap (λ (l : List ℕ). l ++ zeros (n - length l)) (taken-front front rest even short full)
+  pub uniform_of-front : (front rest : List ℕ) → length front % 2 ≡ 0 → length front ≤ 2688 → length (taken_of q n front) ≡ n
+      → uniform_of q n (front ++ rest) ≡ uniform_of q n front
+  unfolding uniform_of
+  uniform_of-front front rest even short full = ap (λ (l : List ℕ). l ++ zeros (n - length l)) (taken-front front rest even short full)
 
 -- ---- in the ring
 
-pub uniform-element : (stream : List ℕ) → Element (uniformElement stream)
-uniform-element stream = uniformOf-element q n q-positive stream
+pub uniform_element_lem : (stream : List ℕ) → Element (uniform_element stream)
+uniform_element_lem stream = uniform_of-element q n q-positive stream
 
-pub uniform-full : (stream : List ℕ) → length (taken stream) ≡ n → uniformElement stream ≡ taken stream
-uniform-full stream e = uniformOf-full q n stream e
+pub uniform_full : (stream : List ℕ) → length (taken stream) ≡ n → uniform_element stream ≡ taken stream
+uniform_full stream e = uniform_of_full q n stream e
 
 pub uniform-front : (front rest : List ℕ) → length front % 2 ≡ 0 → length front ≤ 2688 → length (taken front) ≡ n
-    → uniformElement (front ++ rest) ≡ uniformElement front
-uniform-front front rest even short full = uniformOf-front q n front rest even short full
+    → uniform_element (front ++ rest) ≡ uniform_element front
+uniform-front front rest even short full = uniform_of-front q n front rest even short full

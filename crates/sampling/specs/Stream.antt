@@ -7,8 +7,8 @@ use Rattle.ring.specs.Ring.{q, n}
 use Rattle.encoding.specs.Words.{words}
 
 -- how many bytes a stream has
-abbrev pub streamLength : ℕ
-streamLength = 2688
+abbrev pub stream_length : ℕ
+stream_length = 2688
 
 -- the words below q, in order; the others are passed over
 unfoldable pub reduced : (q : ℕ) (ws : List ℕ) → List ℕ
@@ -16,16 +16,16 @@ reduced q ws = filter {p = λ w. w < q} (λ w. dec_lt w q) ws
 
 -- the words that are taken: the first n below q; fewer where the stream is exhausted before
 unfoldable pub taken_of : (q n : ℕ) (stream : List ℕ) → List ℕ
-taken_of q n stream = take n (reduced q (words (take streamLength stream)))
+taken_of q n stream = take n (reduced q (words (take stream_length stream)))
 
 -- the words that are taken, and zeros up to n
-unfoldable pub uniformOf : (q n : ℕ) (stream : List ℕ) → List ℕ
-uniformOf q n stream = taken_of q n stream ++ zeros (n - length (taken_of q n stream))
+unfoldable pub uniform_of : (q n : ℕ) (stream : List ℕ) → List ℕ
+uniform_of q n stream = taken_of q n stream ++ zeros (n - length (taken_of q n stream))
 
 -- ---- in the ring: 1,024 words below 59,393
 
 abbrev pub taken : List ℕ → List ℕ
 taken stream = taken_of q n stream
 
-abbrev pub uniformElement : List ℕ → List ℕ
-uniformElement stream = uniformOf q n stream
+abbrev pub uniform_element : List ℕ → List ℕ
+uniform_element stream = uniform_of q n stream

@@ -4,8 +4,8 @@ ghost use Rattle.std.specs.Prelude.{◌≡◌, map, ◌%◌, length};
 ghost use Rattle.lists.specs.Table.{table};
 ghost use Rattle.ring.specs.Ring.{n};
 ghost use Rattle.ring.specs.Centred.{residue};
-ghost use Rattle.sampling.specs.Noise.{fourBits, nibbleAt, ternaryNoise};
-ghost use Rattle.sampling.specs.Stream.{taken, uniformElement};
+ghost use Rattle.sampling.specs.Noise.{four_bits, nibble_at, ternary_noise};
+ghost use Rattle.sampling.specs.Stream.{taken, uniform_element};
 
 use modq::Q;
 use ntt::{DEGREE, Element};
@@ -28,15 +28,15 @@ const NOISE_VALUES: [i8; 16] = [0, 1, -1, 0, 1, -1, 0, 1, -1, 0, 1, -1, 0, 1, -1
 
 // The table, once a polynomial: indexing the constant itself would copy it for each coefficient.
 fn noise_values() -> [i8; 16]
-    ensures { result ≡ table 16 fourBits }
+    ensures { result ≡ table 16 four_bits }
 {
     NOISE_VALUES
 }
 
 // The value of the four lowest bits, as wide as a coefficient: so the loop behind has nothing to unpack.
 fn noise(t: u8, values: &[i8; 16]) -> i16
-    requires { values.now ≡ table 16 fourBits }
-    ensures { result ≡ fourBits (t % 16) }
+    requires { values.now ≡ table 16 four_bits }
+    ensures { result ≡ four_bits (t % 16) }
 {
     let value = values[(t % 16) as usize];
     value as i16
@@ -44,7 +44,7 @@ fn noise(t: u8, values: &[i8; 16]) -> i16
 
 // The values of the first 512 bytes, two a byte. Missing bytes count as zeros.
 fn signed_noise(bytes: &[u8]) -> [i16; DEGREE]
-    ensures { result ≡ table n (λ k. fourBits (nibbleAt bytes.now k)) }
+    ensures { result ≡ table n (λ k. four_bits (nibble_at bytes.now k)) }
 {
     let values = noise_values();
     let mut t = [0i16; DEGREE];
@@ -77,7 +77,7 @@ fn coefficients(values: [i16; DEGREE]) -> Element
 
 // The ternary polynomial of the first 512 bytes, two coefficients a byte. Missing bytes count as zeros.
 pub fn ternary(bytes: &[u8]) -> Element
-    ensures { result ≡ ternaryNoise bytes.now }
+    ensures { result ≡ ternary_noise bytes.now }
 {
     coefficients(signed_noise(bytes))
 }
@@ -94,7 +94,7 @@ pub struct UniformSample {
 
 // Reads 16 blocks of 84 words, up to the word that completes the polynomial or to the last whole word of a shorter stream.
 pub fn uniform(stream: &[u8]) -> UniformSample
-    ensures { (result.count ≡ length (taken stream.now)) × (result.value ≡ uniformElement stream.now) }
+    ensures { (result.count ≡ length (taken stream.now)) × (result.value ≡ uniform_element stream.now) }
 {
     let mut value = [0u16; DEGREE];
     let mut count: usize = 0;

@@ -2,8 +2,8 @@
 // A case has nine fields: the stream, the noise of s and of e, the lengths of both keys, the number, an empty field, and both keys.
 ghost use Rattle.std.specs.Prelude.{◌≡◌, length};
 ghost use Rattle.sampling.specs.Stream.{taken};
-ghost use Rattle.records.specs.Layout.{publicKeyLength, secretKeyLength};
-ghost use Rattle.sampling_cases.specs.Cases.{elementAgrees?, noiseAgrees?, keysAgree?, caseAgrees?, fits?, verdict, added, counts};
+ghost use Rattle.records.specs.Layout.{public_key_length, secret_key_length};
+ghost use Rattle.sampling_cases.specs.Cases.{element_agrees, noise_agrees, keys_agree, case_agrees, is_fitting, verdict, added, counts};
 
 use encoding::{ELEMENT_LENGTH, TERNARY_LENGTH};
 use ntt::DEGREE;
@@ -14,8 +14,8 @@ use vectors::Verdict;
 // ---- a case
 
 fn element_agrees(stream: &[u8], public: &[u8]) -> bool
-    requires { length public.now ≡ publicKeyLength }
-    ensures { result ≡ elementAgrees? stream.now public.now }
+    requires { length public.now ≡ public_key_length }
+    ensures { result ≡ element_agrees stream.now public.now }
 {
     let sample = sampling::uniform(stream);
     let a = sample.value;
@@ -25,8 +25,8 @@ fn element_agrees(stream: &[u8], public: &[u8]) -> bool
 }
 
 fn noise_agrees(noise: &[u8], secret: &[u8]) -> bool
-    requires { length secret.now ≡ secretKeyLength }
-    ensures { result ≡ noiseAgrees? noise.now secret.now }
+    requires { length secret.now ≡ secret_key_length }
+    ensures { result ≡ noise_agrees noise.now secret.now }
 {
     let s = sampling::ternary(noise);
     let mut bytes = [0u8; TERNARY_LENGTH];
@@ -36,7 +36,7 @@ fn noise_agrees(noise: &[u8], secret: &[u8]) -> bool
 
 // Whether both keys are there whole, and the samples are theirs.
 fn keys_agree(stream: &[u8], noise: &[u8], public: &[u8], secret: &[u8]) -> bool
-    ensures { result ≡ keysAgree? stream.now noise.now public.now secret.now }
+    ensures { result ≡ keys_agree stream.now noise.now public.now secret.now }
 {
     if public.len() != PUBLIC_KEY_LENGTH {
         return false;
@@ -59,7 +59,7 @@ pub fn count(stream: &[u8]) -> usize
 }
 
 fn agrees(number: u32, stream: &[u8], noise: &[u8], public: &[u8], secret: &[u8]) -> bool
-    ensures { result ≡ caseAgrees? number stream.now noise.now public.now secret.now }
+    ensures { result ≡ case_agrees number stream.now noise.now public.now secret.now }
 {
     match number {
         0 => keys_agree(stream, noise, public, secret),
@@ -71,7 +71,7 @@ fn agrees(number: u32, stream: &[u8], noise: &[u8], public: &[u8], secret: &[u8]
 
 // Whether every buffer of the first case has the right length.
 fn fitting(text: &[u8]) -> bool
-    ensures { result ≡ fits? text.now }
+    ensures { result ≡ is_fitting text.now }
 {
     (vectors::field(text, 0).len() == STREAM_LENGTH)
         & (vectors::field(text, 1).len() == NOISE_LENGTH)

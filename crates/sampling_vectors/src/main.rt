@@ -1,7 +1,7 @@
 // Works through samples with known results. It prints the coefficient of each four bits, how many of two words are taken, and on how
 // many of the cases of key making on standard input the samples agree with the keys.
 ghost use Rattle.std.specs.Prelude.{◌≡◌, ◌<◌};
-ghost use Rattle.sampling.specs.Noise.{noiseCoefficient};
+ghost use Rattle.sampling.specs.Noise.{noise_coefficient};
 
 use libc::{STDIN_FILENO, STDOUT_FILENO};
 use modq::Q;
@@ -24,7 +24,7 @@ fn print_counts(c: Counts) {
 // The coefficient of four bits, as the polynomial of one byte begins with it.
 fn coefficient(t: u8) -> u16
     requires { t < 16 }
-    ensures { result ≡ noiseCoefficient t }
+    ensures { result ≡ noise_coefficient t }
 {
     let b = [t];
     let p = sampling::ternary(&b);

@@ -7,7 +7,7 @@ use Rattle.exactness.specs.Promises.{Exact, TripleWithin}
 use Rattle.exactness.proofs.Exactness as E
 use Rattle.ring.specs.Ring.{Element, Invertible}
 use Rattle.ring.specs.Centred.{Ternary}
-use Rattle.ring.specs.Invertible.{inverseOf}
+use Rattle.ring.specs.Invertible.{inverse_of}
 use Rattle.ring.proofs.RingLaws.{inverse-times}
 use Rattle.scheme.specs.Scheme.{Triple, found, setting, masked, decapsulation}
 use Rattle.scheme.proofs.Givens.{givens}
@@ -25,22 +25,22 @@ pub exact : (a b i s c1 c2 : List ℕ) (dummy : Triple) → SoundKey setting a b
     → Exact setting a b i s c1 c2 dummy
 exact = promises.exact
 
-pub unique-within-2 : (a b i s c1 c2 : List ℕ) (t u : Triple) → SoundKey setting a b i s → TripleWithin setting 2 t → TripleWithin setting 2 u
+pub unique-within_2 : (a b i s c1 c2 : List ℕ) (t u : Triple) → SoundKey setting a b i s → TripleWithin setting 2 t → TripleWithin setting 2 u
     → Formula setting a b c1 c2 t → Formula setting a b c1 c2 u → t ≡ u
-unique-within-2 = promises.unique-within-2
+unique-within_2 = promises.unique-within_2
 
 -- what encapsulation makes of a ternary triple is decapsulated to that triple
 pub round_trip : (a b i s : List ℕ) (dummy t : Triple) → SoundKey setting a b i s → TernaryTriple setting dummy → TernaryTriple setting t
     → decapsulation a b i s dummy (masked a t.r t.e1) (masked b t.r t.e2) ≡ found t
 round_trip = E.round_trip setting givens
 
--- ---- a key that the key check accepts is sound, with `inverseOf b`
+-- ---- a key that the key check accepts is sound, with `inverse_of b`
 
-pub sound-key : (a b s : List ℕ) → Element a → Element b → Ternary s → Invertible b → Matches setting a b s → SoundKey setting a b (inverseOf b) s
+pub sound-key : (a b s : List ℕ) → Element a → Element b → Ternary s → Invertible b → Matches setting a b s → SoundKey setting a b (inverse_of b) s
 sound-key a b s ha hb hs unit matches =
     let (element, inverse) = inverse-times b unit in
     record { a-element = ha; b-element = hb; i-element = element; inverse = inverse; s-ternary = hs; matches = matches }
 
-pub exact-by-inverse : (a b s c1 c2 : List ℕ) (dummy : Triple) → Element a → Element b → Ternary s → Invertible b → Matches setting a b s
-    → Element c1 → Element c2 → TernaryTriple setting dummy → Exact setting a b (inverseOf b) s c1 c2 dummy
-exact-by-inverse a b s c1 c2 dummy ha hb hs unit matches = exact a b (inverseOf b) s c1 c2 dummy (sound-key a b s ha hb hs unit matches)
+pub exact_by-inverse : (a b s c1 c2 : List ℕ) (dummy : Triple) → Element a → Element b → Ternary s → Invertible b → Matches setting a b s
+    → Element c1 → Element c2 → TernaryTriple setting dummy → Exact setting a b (inverse_of b) s c1 c2 dummy
+exact_by-inverse a b s c1 c2 dummy ha hb hs unit matches = exact a b (inverse_of b) s c1 c2 dummy (sound-key a b s ha hb hs unit matches)

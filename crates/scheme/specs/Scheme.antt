@@ -4,19 +4,19 @@ use Rattle.exactness.specs.Setting.{Setting}
 use Rattle.exactness.specs.Scheme as Any
 pub use Rattle.exactness.specs.Scheme.{Triple, Outcome, found, failed}
 use Rattle.ring.specs.Ring.{q, n, fifth, product}
-use Rattle.ring.specs.Centred.{centred, remainders, within?}
+use Rattle.ring.specs.Centred.{centred, remainders, is_within}
 
 -- degree 1,024, q = 59,393, X^1024 = - 1
 abbrev pub setting : Setting
-setting = record { q = q; n = n; fifth = fifth; product = product; centred = centred; remainders = remainders; within? = within? }
+setting = record { q = q; n = n; fifth = fifth; product = product; centred = centred; remainders = remainders; is_within = is_within }
 
 -- b = 5 × (a × s + e)
-abbrev pub keyElement : (a s e : List ℕ) → List ℕ
-keyElement a s e = Any.keyElement setting a s e
+abbrev pub key_element : (a s e : List ℕ) → List ℕ
+key_element a s e = Any.key_element setting a s e
 
 -- b ÷ 5 - a × s
-abbrev pub keyError : (a b s : List ℕ) → List ℕ
-keyError a b s = Any.keyError setting a b s
+abbrev pub key_error : (a b s : List ℕ) → List ℕ
+key_error a b s = Any.key_error setting a b s
 
 -- a × r + e: c1 and c2 of an encapsulation
 abbrev pub masked : (a r e : List ℕ) → List ℕ
@@ -33,14 +33,14 @@ phase s2 s1s = Any.phase setting s2 s1s
 abbrev pub recovered : (a i s1 s2 e2 : List ℕ) → Triple
 recovered a i s1 s2 e2 = Any.recovered setting a i s1 s2 e2
 
-abbrev pub recovers? : Triple → Bool
-recovers? t = Any.recovers? setting t
+abbrev pub recovers : Triple → Bool
+recovers t = Any.recovers setting t
 
-abbrev pub withoutDummy : (dummy t : Triple) → Triple
-withoutDummy dummy t = Any.withoutDummy setting dummy t
+abbrev pub without_dummy : (dummy t : Triple) → Triple
+without_dummy dummy t = Any.without_dummy setting dummy t
 
-abbrev pub ternary? : Triple → Bool
-ternary? t = Any.ternary? setting t
+abbrev pub is_ternary : Triple → Bool
+is_ternary t = Any.is_ternary setting t
 
 abbrev pub judged : (dummy t : Triple) → Outcome
 judged dummy t = Any.judged setting dummy t

@@ -1,12 +1,12 @@
 // The scheme of document 01 on ring elements, by value. The elements of a key are given by their spectra: the element with the spectrum v
-// is `coefficientsOf v`. The tables of factors are lent.
+// is `coefficients_of v`. The tables of factors are lent.
 ghost use Rattle.std.specs.Prelude.{◌≡◌};
 ghost use Rattle.std.proofs.Math.Bool.{decide};
-ghost use Rattle.ntt.specs.Spectrum.{spectrumOf, coefficientsOf};
-ghost use Rattle.ntt.specs.Factors.{forwardFactors, backwardFactors};
-ghost use Rattle.ring.specs.Invertible.{invertible?};
-ghost use Rattle.ring.specs.Centred.{quotients, within?};
-ghost use Rattle.scheme.specs.Scheme.{keyElement, keyError, masked, summed, phase, recovered, recovers?, withoutDummy, ternary?, judged, core, decapsulation, step2};
+ghost use Rattle.ntt.specs.Spectrum.{spectrum_of, coefficients_of};
+ghost use Rattle.ntt.specs.Factors.{forward_factors, backward_factors};
+ghost use Rattle.ring.specs.Invertible.{is_invertible};
+ghost use Rattle.ring.specs.Centred.{quotients, is_within};
+ghost use Rattle.scheme.specs.Scheme.{key_element, key_error, masked, summed, phase, recovered, recovers, without_dummy, is_ternary, judged, core, decapsulation, step2};
 ghost use Rattle.scheme.specs.Answers.{triple_of, answer};
 
 use ntt::{DEGREE, Element, Spectrum};
@@ -40,8 +40,8 @@ pub struct CheckedKey {
 
 // Key generation from a, s and e. It tries once.
 pub fn generate(a: Element, s: Element, e: Element, forward: &[u16], backward: &[u16]) -> Generated
-    requires { (forward.now ≡ forwardFactors) × (backward.now ≡ backwardFactors) }
-    ensures { (result.b ≡ keyElement a s e) × (result.invertible ≡ decide (invertible? (keyElement a s e))) }
+    requires { (forward.now ≡ forward_factors) × (backward.now ≡ backward_factors) }
+    ensures { (result.b ≡ key_element a s e) × (result.invertible ≡ decide (is_invertible (key_element a s e))) }
 {
     let b = ring::multiple(5, ring::sum(ring::product_with(a, s, forward, backward), e));
     let zero = ring::has_zero(ntt::forward(b, forward));
@@ -52,8 +52,8 @@ pub fn generate(a: Element, s: Element, e: Element, forward: &[u16], backward: &
 }
 
 pub fn public_key(a: Element, b: Element, forward: &[u16]) -> PreparedPublicKey
-    requires { forward.now ≡ forwardFactors }
-    ensures { (result.a ≡ spectrumOf a) × (result.b ≡ spectrumOf b) × (result.invertible ≡ decide (invertible? b)) }
+    requires { forward.now ≡ forward_factors }
+    ensures { (result.a ≡ spectrum_of a) × (result.b ≡ spectrum_of b) × (result.invertible ≡ decide (is_invertible b)) }
 {
     let a_spectrum = ntt::forward(a, forward);
     let b_spectrum = ntt::forward(b, forward);
@@ -67,8 +67,8 @@ pub fn public_key(a: Element, b: Element, forward: &[u16]) -> PreparedPublicKey
 
 // b ÷ 5 - a × s, the e of a sound key, from the spectra of a and s; 35,636 is the reciprocal of 5.
 fn key_error(a: Spectrum, b: Element, s: Spectrum, backward: &[u16]) -> Element
-    requires { backward.now ≡ backwardFactors }
-    ensures { result ≡ keyError (coefficientsOf a) b (coefficientsOf s) }
+    requires { backward.now ≡ backward_factors }
+    ensures { result ≡ key_error (coefficients_of a) b (coefficients_of s) }
 {
     let product = ring::product_of_spectra(a, s, backward);
     ring::difference(ring::multiple(35636, b), product)
@@ -82,9 +82,9 @@ pub fn check_key(
     forward: &[u16],
     backward: &[u16],
 ) -> CheckedKey
-    requires { (forward.now ≡ forwardFactors) × (backward.now ≡ backwardFactors) }
-    ensures matches_value { result.matches ≡ within? 1 (keyError a b s) }
-    ensures a_value { (result.a ≡ spectrumOf a) × (result.b ≡ spectrumOf b) × (result.s ≡ spectrumOf s) }
+    requires { (forward.now ≡ forward_factors) × (backward.now ≡ backward_factors) }
+    ensures matches_value { result.matches ≡ is_within 1 (key_error a b s) }
+    ensures a_value { (result.a ≡ spectrum_of a) × (result.b ≡ spectrum_of b) × (result.s ≡ spectrum_of s) }
 {
     let a_spectrum = ntt::forward(a, forward);
     let b_spectrum = ntt::forward(b, forward);
@@ -122,8 +122,8 @@ pub fn encapsulate(
     forward: &[u16],
     backward: &[u16],
 ) -> Encapsulation
-    requires { (forward.now ≡ forwardFactors) × (backward.now ≡ backwardFactors) }
-    ensures { (result.c1 ≡ masked (coefficientsOf a) t.r t.e1) × (result.c2 ≡ masked (coefficientsOf b) t.r t.e2) }
+    requires { (forward.now ≡ forward_factors) × (backward.now ≡ backward_factors) }
+    ensures { (result.c1 ≡ masked (coefficients_of a) t.r t.e1) × (result.c2 ≡ masked (coefficients_of b) t.r t.e2) }
 {
     let r = t.r;
     let e1 = t.e1;
@@ -153,9 +153,9 @@ pub struct Sums {
 
 // Step 1: the encapsulation of the dummy is added.
 pub fn add_dummy(a: Spectrum, b: Spectrum, dummy: Triple, c: Encapsulation, forward: &[u16]) -> Sums
-    requires { forward.now ≡ forwardFactors }
-    ensures first_value { result.first ≡ spectrumOf (summed (coefficientsOf a) dummy.r dummy.e1 c.c1) }
-    ensures second_value { result.second ≡ spectrumOf (summed (coefficientsOf b) dummy.r dummy.e2 c.c2) }
+    requires { forward.now ≡ forward_factors }
+    ensures first_value { result.first ≡ spectrum_of (summed (coefficients_of a) dummy.r dummy.e1 c.c1) }
+    ensures second_value { result.second ≡ spectrum_of (summed (coefficients_of b) dummy.r dummy.e2 c.c2) }
 {
     let r = dummy.r;
     let e1 = dummy.e1;
@@ -173,8 +173,8 @@ pub fn add_dummy(a: Spectrum, b: Spectrum, dummy: Triple, c: Encapsulation, forw
 
 // Step 2: m, from the second sum and the product of the first with s.
 pub fn phase(second: Spectrum, product: Spectrum, backward: &[u16]) -> Element
-    requires { backward.now ≡ backwardFactors }
-    ensures { result ≡ phase (coefficientsOf second) (coefficientsOf product) }
+    requires { backward.now ≡ backward_factors }
+    ensures { result ≡ phase (coefficients_of second) (coefficients_of product) }
 {
     ntt::backward(
         ring::difference(second, ring::multiple(5, product)),
@@ -191,8 +191,8 @@ pub fn recover(
     forward: &[u16],
     backward: &[u16],
 ) -> Triple
-    requires { (forward.now ≡ forwardFactors) × (backward.now ≡ backwardFactors) }
-    ensures { triple_of result ≡ recovered (coefficientsOf a) (coefficientsOf inverse) (coefficientsOf sums.first) (coefficientsOf sums.second) e2 }
+    requires { (forward.now ≡ forward_factors) × (backward.now ≡ backward_factors) }
+    ensures { triple_of result ≡ recovered (coefficients_of a) (coefficients_of inverse) (coefficients_of sums.first) (coefficients_of sums.second) e2 }
 {
     let first = sums.first;
     let second = sums.second;
@@ -208,7 +208,7 @@ pub fn recover(
 
 // The test of step 4.
 pub fn recovers(t: Triple) -> bool
-    ensures { result ≡ recovers? (triple_of t) }
+    ensures { result ≡ recovers (triple_of t) }
 {
     let r = t.r;
     let e1 = t.e1;
@@ -219,7 +219,7 @@ pub fn recovers(t: Triple) -> bool
 
 // Step 5: the dummy is subtracted.
 pub fn subtract_dummy(dummy: Triple, t: Triple) -> Triple
-    ensures { triple_of result ≡ withoutDummy (triple_of dummy) (triple_of t) }
+    ensures { triple_of result ≡ without_dummy (triple_of dummy) (triple_of t) }
 {
     let r = t.r;
     let e1 = t.e1;
@@ -236,7 +236,7 @@ pub fn subtract_dummy(dummy: Triple, t: Triple) -> Triple
 
 // The test of step 5.
 pub fn is_ternary(t: Triple) -> bool
-    ensures { result ≡ ternary? (triple_of t) }
+    ensures { result ≡ is_ternary (triple_of t) }
 {
     let r = t.r;
     let e1 = t.e1;
@@ -282,8 +282,8 @@ pub fn core(
     forward: &[u16],
     backward: &[u16],
 ) -> Decapsulation
-    requires { (forward.now ≡ forwardFactors) × (backward.now ≡ backwardFactors) }
-    ensures { result ≡ answer (core (coefficientsOf a) (coefficientsOf inverse) (triple_of dummy) (coefficientsOf sums.first) (coefficientsOf sums.second) (coefficientsOf product)) (quotients (phase (coefficientsOf sums.second) (coefficientsOf product))) }
+    requires { (forward.now ≡ forward_factors) × (backward.now ≡ backward_factors) }
+    ensures { result ≡ answer (core (coefficients_of a) (coefficients_of inverse) (triple_of dummy) (coefficients_of sums.first) (coefficients_of sums.second) (coefficients_of product)) (quotients (phase (coefficients_of sums.second) (coefficients_of product))) }
 {
     let second = sums.second;
     let d = ring::divide_by_5(phase(second, product, backward));
@@ -303,8 +303,8 @@ pub fn decapsulate(
     forward: &[u16],
     backward: &[u16],
 ) -> Decapsulation
-    requires { (forward.now ≡ forwardFactors) × (backward.now ≡ backwardFactors) }
-    ensures { result ≡ answer (decapsulation (coefficientsOf a) (coefficientsOf b) (coefficientsOf inverse) (coefficientsOf s) (triple_of dummy) c.c1 c.c2) (quotients (step2 (coefficientsOf a) (coefficientsOf b) (coefficientsOf s) (triple_of dummy) c.c1 c.c2)) }
+    requires { (forward.now ≡ forward_factors) × (backward.now ≡ backward_factors) }
+    ensures { result ≡ answer (decapsulation (coefficients_of a) (coefficients_of b) (coefficients_of inverse) (coefficients_of s) (triple_of dummy) c.c1 c.c2) (quotients (step2 (coefficients_of a) (coefficients_of b) (coefficients_of s) (triple_of dummy) c.c1 c.c2)) }
 {
     let sums = add_dummy(a, b, dummy, c, forward);
     let first = sums.first;

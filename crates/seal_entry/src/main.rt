@@ -3,8 +3,8 @@
 // nothing else. The exit status is always 0, since the language has no other.
 ghost use Rattle.std.specs.Prelude.{◌≡◌, ◌+◌};
 ghost use Rattle.lists.specs.Table.{zeros};
-ghost use Rattle.records.specs.Layout.{sealedEntryLength};
-ghost use Rattle.seal_entry_output.specs.SealEntry.{inputLength};
+ghost use Rattle.records.specs.Layout.{sealed_entry_length};
+ghost use Rattle.seal_entry_output.specs.SealEntry.{input_length};
 
 use libc::{STDERR_FILENO, STDIN_FILENO, STDOUT_FILENO};
 use records::SEALED_ENTRY_LENGTH;
@@ -12,13 +12,13 @@ use seal_entry_output::INPUT_LENGTH;
 
 // One byte more than the longer input has, so that longer input is told from input that fits, and an endless one ends.
 fn input_buffer() -> [u8; INPUT_LENGTH + 1]
-    ensures { result ≡ zeros (inputLength + 1) }
+    ensures { result ≡ zeros (input_length + 1) }
 {
     [0; INPUT_LENGTH + 1]
 }
 
 fn sealed_buffer() -> [u8; SEALED_ENTRY_LENGTH]
-    ensures { result ≡ zeros sealedEntryLength }
+    ensures { result ≡ zeros sealed_entry_length }
 {
     [0; SEALED_ENTRY_LENGTH]
 }

@@ -2,10 +2,10 @@
 ghost use Rattle.std.specs.Prelude.{◌≡◌, ◌≤◌, length, take};
 ghost use Rattle.lists.specs.Table.{zeros};
 ghost use Rattle.text.specs.Text.{written};
-ghost use Rattle.answers.specs.Answers.{onDone};
-ghost use Rattle.records.specs.Layout.{sealedEntryLength};
-ghost use Rattle.calls.specs.Calls.{sealAnswer, sealOut};
-ghost use Rattle.seal_entry_output.specs.SealEntry.{behindKeyLength, inputLength?, keyPart, noisePart, entryPart, sealEntryAnswer, sealedEntry, standardOutput, standardError};
+ghost use Rattle.answers.specs.Answers.{on_done};
+ghost use Rattle.records.specs.Layout.{sealed_entry_length};
+ghost use Rattle.calls.specs.Calls.{seal_answer, seal_out};
+ghost use Rattle.seal_entry_output.specs.SealEntry.{behind_key_length, is_input_length, key_part, noise_part, entry_part, seal_entry_answer, sealed_entry, standard_output, standard_error};
 
 use answers::{Answer, Refusal};
 use keys::TRIPLE_NOISE_LENGTH;
@@ -21,16 +21,16 @@ pub const INPUT_LENGTH: usize = PUBLIC_KEY_LENGTH + BEHIND_KEY;
 const SEEDED_INPUT_LENGTH: usize = SEEDED_KEY_LENGTH + BEHIND_KEY;
 
 fn is_input_length(size: usize) -> bool
-    ensures { result ≡ inputLength? size }
+    ensures { result ≡ is_input_length size }
 {
     (size == INPUT_LENGTH) | (size == SEEDED_INPUT_LENGTH)
 }
 
 // Seals by the parts of an input.
 fn seal_parts(input: &[u8], sealed: &mut [u8]) -> Answer
-    requires { behindKeyLength ≤ length input.now }
-    ensures value { result ≡ sealAnswer (keyPart input.now) (noisePart input.now) (entryPart input.now) (length sealed.old) }
-    ensures sealed_after { sealed.new ≡ sealOut (keyPart input.now) (noisePart input.now) (entryPart input.now) sealed.old }
+    requires { behind_key_length ≤ length input.now }
+    ensures value { result ≡ seal_answer (key_part input.now) (noise_part input.now) (entry_part input.now) (length sealed.old) }
+    ensures sealed_after { sealed.new ≡ seal_out (key_part input.now) (noise_part input.now) (entry_part input.now) sealed.old }
 {
     let noise = input.len() - BEHIND_KEY;
     let entry = noise + TRIPLE_NOISE_LENGTH;
@@ -44,9 +44,9 @@ fn seal_parts(input: &[u8], sealed: &mut [u8]) -> Answer
 
 // The sealed entry of an input of any length.
 fn sealed_of(input: &[u8], sealed: &mut [u8]) -> Answer
-    requires { length sealed.old ≡ sealedEntryLength }
-    ensures value { result ≡ sealEntryAnswer input.now }
-    ensures sealed_after { sealed.new ≡ onDone result (sealedEntry input.now) sealed.old }
+    requires { length sealed.old ≡ sealed_entry_length }
+    ensures value { result ≡ seal_entry_answer input.now }
+    ensures sealed_after { sealed.new ≡ on_done result (sealed_entry input.now) sealed.old }
 {
     if !is_input_length(input.len()) {
         return Answer::Refused(Refusal::WrongLength);
@@ -63,12 +63,12 @@ pub struct Printed {
 
 // What the program does with its input.
 pub fn seal_entry(input: &[u8], sealed: &mut [u8]) -> Printed
-    requires { length sealed.old ≡ sealedEntryLength }
-    ensures sealed_after { sealed.new ≡ onDone (sealEntryAnswer input.now) (sealedEntry input.now) sealed.old }
-    ensures sealed_value { (result.sealed ≡ length (standardOutput input.now)) × (result.sealed ≤ sealedEntryLength) }
-    ensures sealed_after_2 { take result.sealed sealed.new ≡ standardOutput input.now }
-    ensures bytes_value { result.error.bytes ≡ written (standardError input.now) (zeros 21) }
-    ensures length_value { (result.error.length ≡ length (standardError input.now)) × (result.error.length ≤ 21) }
+    requires { length sealed.old ≡ sealed_entry_length }
+    ensures sealed_after { sealed.new ≡ on_done (seal_entry_answer input.now) (sealed_entry input.now) sealed.old }
+    ensures sealed_value { (result.sealed ≡ length (standard_output input.now)) × (result.sealed ≤ sealed_entry_length) }
+    ensures sealed_after_2 { take result.sealed sealed.new ≡ standard_output input.now }
+    ensures bytes_value { result.error.bytes ≡ written (standard_error input.now) (zeros 21) }
+    ensures length_value { (result.error.length ≡ length (standard_error input.now)) × (result.error.length ≤ 21) }
 {
     let answer = sealed_of(input, sealed);
     let error = refusal_line::line(answer);

@@ -2,12 +2,12 @@
 use Rattle.std.specs.Prelude.{List, ℕ}
 use Rattle.answers.specs.declared.EncapsulationRecord.TheVariants.{SealedEntry}
 use Rattle.answers.specs.declared.Answer.{Answer}
-use Rattle.answers.specs.Answers.{andThen}
-use Rattle.records.specs.Layout.{sealedEntryMark}
-use Rattle.records.specs.Records.{headerAnswer, c1Word, c2Word, elementsAnswer, first_of, second_of}
+use Rattle.answers.specs.Answers.{and_then}
+use Rattle.records.specs.Layout.{sealed_entry_mark}
+use Rattle.records.specs.Records.{header_answer, c1_word, c2_word, elements_answer, first_of, second_of}
 
 -- 2, 3, then what stands between header and words, then 11
-unfoldable pub sealedFrontAnswer : (version : ℕ) (between : Answer) (bytes : List ℕ) → Answer
-sealedFrontAnswer version between bytes =
-    andThen (headerAnswer sealedEntryMark version bytes)
-    (andThen between (elementsAnswer (c1Word SealedEntry) (c2Word SealedEntry) (first_of bytes) (second_of bytes)))
+unfoldable pub sealed_front_answer : (version : ℕ) (between : Answer) (bytes : List ℕ) → Answer
+sealed_front_answer version between bytes =
+    and_then (header_answer sealed_entry_mark version bytes)
+    (and_then between (elements_answer (c1_word SealedEntry) (c2_word SealedEntry) (first_of bytes) (second_of bytes)))

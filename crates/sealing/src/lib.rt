@@ -1,17 +1,17 @@
 // The calls of a console, which is lent a public key of either kind. Buffers may have any length; under any answer but Done every output
 // is as it came.
 ghost use Rattle.std.specs.Prelude.{◌≡◌, true, length};
-ghost use Rattle.ntt.specs.Spectrum.{coefficientsOf};
-ghost use Rattle.ntt.specs.Factors.{forwardFactors, backwardFactors};
+ghost use Rattle.ntt.specs.Spectrum.{coefficients_of};
+ghost use Rattle.ntt.specs.Factors.{forward_factors, backward_factors};
 ghost use Rattle.scheme.specs.Scheme.{masked};
 ghost use Rattle.scheme.specs.Answers as Struct;
-ghost use Rattle.answers.specs.Answers.{andThen, onDone};
-ghost use Rattle.records.specs.Layout.{sealedEntryLength, encapsulationLength, tripleLength, blockLength};
-ghost use Rattle.records.specs.Records.{encapsulationBytes};
-ghost use Rattle.triples.specs.Triple.{triple_of, tripleAnswer};
-ghost use Rattle.public_keys.specs.PublicKeys.{publicLength?, publicA, publicB, publicAnswer};
-ghost use Rattle.keys.specs.Keys.{tripleNoiseLength, noiseTriple};
-ghost use Rattle.calls.specs.Calls.{encapsulateAnswer, encapsulatedWith, encapsulateOut, sealAnswer, protectedEntry, sealOut};
+ghost use Rattle.answers.specs.Answers.{and_then, on_done};
+ghost use Rattle.records.specs.Layout.{sealed_entry_length, encapsulation_length, triple_length, block_length};
+ghost use Rattle.records.specs.Records.{encapsulation_bytes};
+ghost use Rattle.triples.specs.Triple.{triple_of, triple_answer};
+ghost use Rattle.public_keys.specs.PublicKeys.{is_public_length, public_a, public_b, public_answer};
+ghost use Rattle.keys.specs.Keys.{triple_noise_length, noise_triple};
+ghost use Rattle.calls.specs.Calls.{encapsulate_answer, encapsulated_with, encapsulate_out, seal_answer, protected_entry, seal_out};
 
 use answers::{Answer, Refusal};
 use keys::TRIPLE_NOISE_LENGTH;
@@ -39,9 +39,9 @@ fn encapsulate_with(
     forward: &[u16],
     backward: &[u16],
 ) -> Encapsulated
-    requires { (forward.now ≡ forwardFactors) × (backward.now ≡ backwardFactors) }
-    ensures answer_value { result.answer ≡ andThen key.answer codes }
-    ensures c1_value { (result.c1 ≡ masked (coefficientsOf key.a) t.r t.e1) × (result.c2 ≡ masked (coefficientsOf key.b) t.r t.e2) }
+    requires { (forward.now ≡ forward_factors) × (backward.now ≡ backward_factors) }
+    ensures answer_value { result.answer ≡ and_then key.answer codes }
+    ensures c1_value { (result.c1 ≡ masked (coefficients_of key.a) t.r t.e1) × (result.c2 ≡ masked (coefficients_of key.b) t.r t.e2) }
 {
     let checked = key.answer;
     let a = key.a;
@@ -58,9 +58,9 @@ fn encapsulate_with(
 
 // Of records with the right lengths.
 fn encapsulate_records(key: &[u8], triple: &[u8]) -> Encapsulated
-    requires { (publicLength? (length key.now) ≡ true) × (length triple.now ≡ tripleLength) }
-    ensures answer_value { result.answer ≡ andThen (publicAnswer key.now) (tripleAnswer triple.now) }
-    ensures c2_value { encapsulationBytes result.c1 result.c2 ≡ encapsulatedWith (publicA key.now) (publicB key.now) (triple_of triple.now) }
+    requires { (is_public_length (length key.now) ≡ true) × (length triple.now ≡ triple_length) }
+    ensures answer_value { result.answer ≡ and_then (public_answer key.now) (triple_answer triple.now) }
+    ensures c2_value { encapsulation_bytes result.c1 result.c2 ≡ encapsulated_with (public_a key.now) (public_b key.now) (triple_of triple.now) }
 {
     let mut forward = [0u16; FACTORS];
     let mut backward = [0u16; FACTORS];
@@ -73,8 +73,8 @@ fn encapsulate_records(key: &[u8], triple: &[u8]) -> Encapsulated
 }
 
 fn write_encapsulation(answer: Answer, c1: Element, c2: Element, out: &mut [u8])
-    requires { length out.old ≡ encapsulationLength }
-    ensures { out.new ≡ onDone answer (encapsulationBytes c1 c2) out.old }
+    requires { length out.old ≡ encapsulation_length }
+    ensures { out.new ≡ on_done answer (encapsulation_bytes c1 c2) out.old }
 {
     if let Answer::Done = answer {
         sealed_records::write_encapsulation(c1, c2, out);
@@ -83,8 +83,8 @@ fn write_encapsulation(answer: Answer, c1: Element, c2: Element, out: &mut [u8])
 
 // (c1, c2) = (a × r + e1, b × r + e2), of a triple (r, e1, e2). TRIPLE_LENGTH bytes give ENCAPSULATION_LENGTH.
 pub fn encapsulate(key: &[u8], triple: &[u8], out: &mut [u8]) -> Answer
-    ensures value { result ≡ encapsulateAnswer key.now triple.now (length out.old) }
-    ensures out_after { out.new ≡ encapsulateOut key.now triple.now out.old }
+    ensures value { result ≡ encapsulate_answer key.now triple.now (length out.old) }
+    ensures out_after { out.new ≡ encapsulate_out key.now triple.now out.old }
 {
     let fits = public_keys::is_public_length(key.len())
         & (triple.len() == TRIPLE_LENGTH)
@@ -113,10 +113,10 @@ pub struct Prepared {
 
 // For a key and noise with the right lengths.
 pub fn encapsulate_noise(key: &[u8], noise: &[u8]) -> Prepared
-    requires { (publicLength? (length key.now) ≡ true) × (length noise.now ≡ tripleNoiseLength) }
-    ensures answer_value { result.answer ≡ publicAnswer key.now }
-    ensures triple_value { Struct.triple_of result.triple ≡ noiseTriple noise.now }
-    ensures c1_value { (result.c1 ≡ masked (publicA key.now) result.triple.r result.triple.e1) × (result.c2 ≡ masked (publicB key.now) result.triple.r result.triple.e2) }
+    requires { (is_public_length (length key.now) ≡ true) × (length noise.now ≡ triple_noise_length) }
+    ensures answer_value { result.answer ≡ public_answer key.now }
+    ensures triple_value { Struct.triple_of result.triple ≡ noise_triple noise.now }
+    ensures c1_value { (result.c1 ≡ masked (public_a key.now) result.triple.r result.triple.e1) × (result.c2 ≡ masked (public_b key.now) result.triple.r result.triple.e2) }
 {
     let mut forward = [0u16; FACTORS];
     let mut backward = [0u16; FACTORS];
@@ -140,8 +140,8 @@ pub fn encapsulate_noise(key: &[u8], noise: &[u8]) -> Prepared
 
 // An entry of 16 bytes, protected by the triple, behind c1 and c2.
 fn write_sealed(answer: Answer, c1: Element, c2: Element, t: Triple, entry: &[u8], out: &mut [u8])
-    requires { (length entry.now ≡ blockLength) × (length out.old ≡ sealedEntryLength) }
-    ensures { out.new ≡ onDone answer (protectedEntry c1 c2 (Struct.triple_of t) entry.now) out.old }
+    requires { (length entry.now ≡ block_length) × (length out.old ≡ sealed_entry_length) }
+    ensures { out.new ≡ on_done answer (protected_entry c1 c2 (Struct.triple_of t) entry.now) out.old }
 {
     if let Answer::Done = answer {
         let r = t.r;
@@ -156,8 +156,8 @@ fn write_sealed(answer: Answer, c1: Element, c2: Element, t: Triple, entry: &[u8
 // (c1, c2) = (a × r + e1, b × r + e2), by the triple of TRIPLE_NOISE_LENGTH bytes, then body = entry xor keystream and tag = K1 × body + K2 of
 // what that triple derives. BLOCK_LENGTH bytes give SEALED_ENTRY_LENGTH.
 pub fn seal(key: &[u8], noise: &[u8], entry: &[u8], out: &mut [u8]) -> Answer
-    ensures value { result ≡ sealAnswer key.now noise.now entry.now (length out.old) }
-    ensures out_after { out.new ≡ sealOut key.now noise.now entry.now out.old }
+    ensures value { result ≡ seal_answer key.now noise.now entry.now (length out.old) }
+    ensures out_after { out.new ≡ seal_out key.now noise.now entry.now out.old }
 {
     let fits = public_keys::is_public_length(key.len())
         & (noise.len() == TRIPLE_NOISE_LENGTH)

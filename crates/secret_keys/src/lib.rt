@@ -1,17 +1,17 @@
 // Secret keys of either version read off the bytes that a call was lent: checked in the order of documents 01 and 02, and prepared for the
 // scheme. The version sets the length. A record whose mark, version or length are refused is not read: its elements are zeros.
 ghost use Rattle.std.specs.Prelude.{◌≡◌, true, not, ◌≤◌, eqb, length};
-ghost use Rattle.ntt.specs.Spectrum.{spectrumOf};
-ghost use Rattle.ring.specs.Reciprocals.{hasZero};
-ghost use Rattle.ntt.specs.Factors.{forwardFactors, backwardFactors};
+ghost use Rattle.ntt.specs.Spectrum.{spectrum_of};
+ghost use Rattle.ring.specs.Reciprocals.{has_zero};
+ghost use Rattle.ntt.specs.Factors.{forward_factors, backward_factors};
 ghost use Rattle.answers.specs.declared.KeyRecord.TheVariants as Kind;
 ghost use Rattle.answers.specs.declared.Refusal.TheVariants.{NotInvertible};
 ghost use Rattle.answers.specs.declared.Answer.TheVariants.{Done};
-ghost use Rattle.answers.specs.Answers.{unless, andThen};
-ghost use Rattle.records.specs.Layout.{expandedKeyVersion, secretKeyLength, expandedKeyLength};
-ghost use Rattle.records.specs.Records.{aWord, bWord, inverseWord, placeAnswer, elementsAnswer, first_of, second_of, codesPart, secretOf, codesAnswer};
-ghost use Rattle.records.specs.Read.{placesAnswer};
-ghost use Rattle.secret_keys.specs.SecretKeys.{expanded?, length_of, layoutAnswer, inverseIn, elementsOf, storedWordsAnswer, unitAnswer, matchAnswer, secretAnswer};
+ghost use Rattle.answers.specs.Answers.{unless, and_then};
+ghost use Rattle.records.specs.Layout.{expanded_key_version, secret_key_length, expanded_key_length};
+ghost use Rattle.records.specs.Records.{a_word, b_word, inverse_word, place_answer, elements_answer, first_of, second_of, codes_part, secret_of, codes_answer};
+ghost use Rattle.records.specs.Read.{places_answer};
+ghost use Rattle.secret_keys.specs.SecretKeys.{is_expanded, length_of, layout_answer, inverse_in, elements_of, stored_words_answer, unit_answer, match_answer, secret_answer};
 
 use answers::{Answer, KeyPart, KeyRecord, Refusal};
 use ntt::{DEGREE, Spectrum};
@@ -24,7 +24,7 @@ use records::{
 
 // The length that a version sets.
 fn version_length(version: u16) -> usize
-    ensures { result ≡ length_of (eqb version expandedKeyVersion) }
+    ensures { result ≡ length_of (eqb version expanded_key_version) }
 {
     if version == EXPANDED_KEY_VERSION {
         return EXPANDED_KEY_LENGTH;
@@ -34,7 +34,7 @@ fn version_length(version: u16) -> usize
 
 // 2, 3, then 1 for a length that is not that of the version.
 fn check_layout(bytes: &[u8]) -> Answer
-    ensures { result ≡ layoutAnswer bytes.now }
+    ensures { result ≡ layout_answer bytes.now }
 {
     let has_mark = encoding::has_mark(bytes, SECRET_KEY_MARK);
     let version = encoding::version(bytes);
@@ -50,7 +50,7 @@ fn check_layout(bytes: &[u8]) -> Answer
 
 // What the words of a and b are answered by; the first that is q or more is named.
 fn words_answer(at: Places) -> Answer
-    ensures { result ≡ placesAnswer at (aWord Kind.SecretKey at.first) (bWord Kind.SecretKey at.second) }
+    ensures { result ≡ places_answer at (a_word Kind.SecretKey at.first) (b_word Kind.SecretKey at.second) }
 {
     let a = KeyRecord::SecretKey(KeyPart::A(at.first));
     let b = KeyRecord::SecretKey(KeyPart::B(at.second));
@@ -59,7 +59,7 @@ fn words_answer(at: Places) -> Answer
 
 // .. and those of the stored inverse.
 fn inverse_words_answer(at: usize) -> Answer
-    ensures { result ≡ placeAnswer at (inverseWord at) }
+    ensures { result ≡ place_answer at (inverse_word at) }
 {
     let word = KeyRecord::SecretKey(KeyPart::StoredInverse(at));
     records::place_answer(at, Refusal::KeyOutOfRange(word))
@@ -67,7 +67,7 @@ fn inverse_words_answer(at: usize) -> Answer
 
 // The order of the checks: `unit` is what the inverse of b is answered by, and `matches` what b = 5 (a × s + e) is.
 fn content_answer(words: Answer, codes: Answer, unit: Answer, matches: Answer) -> Answer
-    ensures { result ≡ andThen words (andThen codes (andThen unit matches)) }
+    ensures { result ≡ and_then words (and_then codes (and_then unit matches)) }
 {
     let last = answers::and_then(unit, matches);
     answers::and_then(words, answers::and_then(codes, last))
@@ -85,10 +85,10 @@ struct Shared {
 }
 
 fn read_shared(bytes: &[u8], forward: &[u16], backward: &[u16]) -> Shared
-    requires secret_key_length_in_bounds { secretKeyLength ≤ length bytes.now }
-    requires forward_value { (forward.now ≡ forwardFactors) × (backward.now ≡ backwardFactors) }
-    ensures words_value { (result.words ≡ elementsAnswer (aWord Kind.SecretKey) (bWord Kind.SecretKey) (first_of bytes.now) (second_of bytes.now)) × (result.codes ≡ codesAnswer (codesPart bytes.now)) × (result.matches ≡ matchAnswer bytes.now) }
-    ensures a_value { (result.a ≡ spectrumOf (first_of bytes.now)) × (result.b ≡ spectrumOf (second_of bytes.now)) × (result.s ≡ spectrumOf (secretOf bytes.now)) }
+    requires secret_key_length_in_bounds { secret_key_length ≤ length bytes.now }
+    requires forward_value { (forward.now ≡ forward_factors) × (backward.now ≡ backward_factors) }
+    ensures words_value { (result.words ≡ elements_answer (a_word Kind.SecretKey) (b_word Kind.SecretKey) (first_of bytes.now) (second_of bytes.now)) × (result.codes ≡ codes_answer (codes_part bytes.now)) × (result.matches ≡ match_answer bytes.now) }
+    ensures a_value { (result.a ≡ spectrum_of (first_of bytes.now)) × (result.b ≡ spectrum_of (second_of bytes.now)) × (result.s ≡ spectrum_of (secret_of bytes.now)) }
 {
     let read = records::read_pair(bytes);
     let words = words_answer(read.unreduced);
@@ -123,8 +123,8 @@ struct Unit {
 
 // Version 2: it is stored. Its spectrum, which an opening needs anyway, tells whether it is that of b.
 fn stored_unit(bytes: &[u8], b: Spectrum, forward: &[u16]) -> Unit
-    requires { (length bytes.now ≡ expandedKeyLength) × (b ≡ spectrumOf (second_of bytes.now)) × (forward.now ≡ forwardFactors) }
-    ensures { (result.words ≡ storedWordsAnswer true bytes.now) × (result.answer ≡ unitAnswer true bytes.now) × (result.inverse ≡ spectrumOf (inverseIn true bytes.now)) }
+    requires { (length bytes.now ≡ expanded_key_length) × (b ≡ spectrum_of (second_of bytes.now)) × (forward.now ≡ forward_factors) }
+    ensures { (result.words ≡ stored_words_answer true bytes.now) × (result.answer ≡ unit_answer true bytes.now) × (result.inverse ≡ spectrum_of (inverse_in true bytes.now)) }
 {
     let stored = encoding::decode_element(&bytes[INVERSE..EXPANDED_KEY_LENGTH]);
     let words = inverse_words_answer(encoding::first_unreduced(stored));
@@ -139,15 +139,15 @@ fn stored_unit(bytes: &[u8], b: Spectrum, forward: &[u16]) -> Unit
 
 // Version 1: whether there is one.
 fn plain_unit(b: Spectrum) -> Answer
-    ensures { result ≡ unless (not (hasZero b)) NotInvertible Done }
+    ensures { result ≡ unless (not (has_zero b)) NotInvertible Done }
 {
     answers::unless(!ring::has_zero(b), Refusal::NotInvertible)
 }
 
 // Of either version. In version 1 it is worked out, zeros where there is none.
 fn read_unit(bytes: &[u8], b: Spectrum, forward: &[u16]) -> Unit
-    requires { (length bytes.now ≡ length_of (expanded? bytes.now)) × (b ≡ spectrumOf (second_of bytes.now)) × (forward.now ≡ forwardFactors) }
-    ensures { (result.words ≡ storedWordsAnswer (expanded? bytes.now) bytes.now) × (result.answer ≡ unitAnswer (expanded? bytes.now) bytes.now) × (result.inverse ≡ spectrumOf (inverseIn (expanded? bytes.now) bytes.now)) }
+    requires { (length bytes.now ≡ length_of (is_expanded bytes.now)) × (b ≡ spectrum_of (second_of bytes.now)) × (forward.now ≡ forward_factors) }
+    ensures { (result.words ≡ stored_words_answer (is_expanded bytes.now) bytes.now) × (result.answer ≡ unit_answer (is_expanded bytes.now) bytes.now) × (result.inverse ≡ spectrum_of (inverse_in (is_expanded bytes.now) bytes.now)) }
 {
     if encoding::version(bytes) == EXPANDED_KEY_VERSION {
         return stored_unit(bytes, b, forward);
@@ -167,8 +167,8 @@ struct UnitAnswers {
 }
 
 fn check_unit(bytes: &[u8], b: Spectrum, forward: &[u16]) -> UnitAnswers
-    requires { (length bytes.now ≡ length_of (expanded? bytes.now)) × (b ≡ spectrumOf (second_of bytes.now)) × (forward.now ≡ forwardFactors) }
-    ensures { (result.words ≡ storedWordsAnswer (expanded? bytes.now) bytes.now) × (result.answer ≡ unitAnswer (expanded? bytes.now) bytes.now) }
+    requires { (length bytes.now ≡ length_of (is_expanded bytes.now)) × (b ≡ spectrum_of (second_of bytes.now)) × (forward.now ≡ forward_factors) }
+    ensures { (result.words ≡ stored_words_answer (is_expanded bytes.now) bytes.now) × (result.answer ≡ unit_answer (is_expanded bytes.now) bytes.now) }
 {
     if encoding::version(bytes) == EXPANDED_KEY_VERSION {
         let unit = stored_unit(bytes, b, forward);
@@ -195,9 +195,9 @@ pub struct SecretKey {
 }
 
 pub fn read_secret_key(bytes: &[u8], forward: &[u16], backward: &[u16]) -> SecretKey
-    requires { (forward.now ≡ forwardFactors) × (backward.now ≡ backwardFactors) }
-    ensures answer_value { result.answer ≡ secretAnswer bytes.now }
-    ensures a_value { (result.a ≡ spectrumOf (elementsOf bytes.now).a) × (result.b ≡ spectrumOf (elementsOf bytes.now).b) × (result.s ≡ spectrumOf (elementsOf bytes.now).s) × (result.inverse ≡ spectrumOf (elementsOf bytes.now).inverse) }
+    requires { (forward.now ≡ forward_factors) × (backward.now ≡ backward_factors) }
+    ensures answer_value { result.answer ≡ secret_answer bytes.now }
+    ensures a_value { (result.a ≡ spectrum_of (elements_of bytes.now).a) × (result.b ≡ spectrum_of (elements_of bytes.now).b) × (result.s ≡ spectrum_of (elements_of bytes.now).s) × (result.inverse ≡ spectrum_of (elements_of bytes.now).inverse) }
 {
     let layout = check_layout(bytes);
     if let Answer::Done = layout {
@@ -232,8 +232,8 @@ pub fn read_secret_key(bytes: &[u8], forward: &[u16], backward: &[u16]) -> Secre
 
 // Its checks alone.
 pub fn check_secret_key(bytes: &[u8], forward: &[u16], backward: &[u16]) -> Answer
-    requires { (forward.now ≡ forwardFactors) × (backward.now ≡ backwardFactors) }
-    ensures { result ≡ secretAnswer bytes.now }
+    requires { (forward.now ≡ forward_factors) × (backward.now ≡ backward_factors) }
+    ensures { result ≡ secret_answer bytes.now }
 {
     let layout = check_layout(bytes);
     if let Answer::Done = layout {

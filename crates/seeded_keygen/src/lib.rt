@@ -1,12 +1,12 @@
 // Key generation from a seed: document 02, No. 2. Buffers may have any length; under any answer but Done every output is as it came.
 ghost use Rattle.std.specs.Prelude.{◌≡◌, length};
-ghost use Rattle.sampling.specs.Noise.{ternaryNoise};
-ghost use Rattle.seeds.specs.Seeds.{seedStream, seedElement};
-ghost use Rattle.answers.specs.Answers.{onDone};
-ghost use Rattle.records.specs.Layout.{seedLength, seededKeyLength};
-ghost use Rattle.records.specs.Records.{seededKeyBytes};
-ghost use Rattle.keys.specs.Keys.{generatedAnswer, keygenB};
-ghost use Rattle.calls.specs.Calls.{seededKeygenAnswer, seededKeygenPublic, seededKeygenSecret};
+ghost use Rattle.sampling.specs.Noise.{ternary_noise};
+ghost use Rattle.seeds.specs.Seeds.{seed_stream, seed_element};
+ghost use Rattle.answers.specs.Answers.{on_done};
+ghost use Rattle.records.specs.Layout.{seed_length, seeded_key_length};
+ghost use Rattle.records.specs.Records.{seeded_key_bytes};
+ghost use Rattle.keys.specs.Keys.{generated_answer, keygen_b};
+ghost use Rattle.calls.specs.Calls.{seeded_keygen_answer, seeded_keygen_public, seeded_keygen_secret};
 
 use answers::{Answer, Refusal};
 use keys::NewKey;
@@ -16,17 +16,17 @@ use sampling::NOISE_LENGTH;
 
 // The new key of the seed's stream.
 fn generate(seed: &[u8], s: &[u8], e: &[u8]) -> NewKey
-    ensures answer_value { result.answer ≡ generatedAnswer (seedStream seed.now) s.now e.now }
-    ensures a_value { (result.a ≡ seedElement seed.now) × (result.b ≡ keygenB (seedStream seed.now) s.now e.now) }
-    ensures s_value { result.s ≡ ternaryNoise s.now }
+    ensures answer_value { result.answer ≡ generated_answer (seed_stream seed.now) s.now e.now }
+    ensures a_value { (result.a ≡ seed_element seed.now) × (result.b ≡ keygen_b (seed_stream seed.now) s.now e.now) }
+    ensures s_value { result.s ≡ ternary_noise s.now }
 {
     let stream = seeds::stream(seed);
     keys::generate(&stream, s, e)
 }
 
 fn write_seeded_key(answer: Answer, seed: &[u8], b: Element, out: &mut [u8])
-    requires { (length seed.now ≡ seedLength) × (length out.old ≡ seededKeyLength) }
-    ensures { out.new ≡ onDone answer (seededKeyBytes seed.now b) out.old }
+    requires { (length seed.now ≡ seed_length) × (length out.old ≡ seeded_key_length) }
+    ensures { out.new ≡ on_done answer (seeded_key_bytes seed.now b) out.old }
 {
     if let Answer::Done = answer {
         seeded_records::write_seeded_key(seed, b, out);
@@ -41,9 +41,9 @@ pub fn keygen_from_seed(
     public: &mut [u8],
     secret: &mut [u8],
 ) -> Answer
-    ensures value { result ≡ seededKeygenAnswer seed.now s.now e.now (length public.old) (length secret.old) }
-    ensures public_after { public.new ≡ seededKeygenPublic seed.now s.now e.now public.old secret.old }
-    ensures secret_after { secret.new ≡ seededKeygenSecret seed.now s.now e.now public.old secret.old }
+    ensures value { result ≡ seeded_keygen_answer seed.now s.now e.now (length public.old) (length secret.old) }
+    ensures public_after { public.new ≡ seeded_keygen_public seed.now s.now e.now public.old secret.old }
+    ensures secret_after { secret.new ≡ seeded_keygen_secret seed.now s.now e.now public.old secret.old }
 {
     let fits = (seed.len() == SEED_LENGTH)
         & (s.len() == NOISE_LENGTH)

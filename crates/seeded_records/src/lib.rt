@@ -1,11 +1,11 @@
 // Seeded public keys as bytes: document 02, No. 2.
 // The calls test every length first, so the functions here are lent buffers of the record's length.
 ghost use Rattle.std.specs.Prelude.{◌≡◌, length};
-ghost use Rattle.encoding.specs.Words.{firstUnreduced};
+ghost use Rattle.encoding.specs.Words.{first_unreduced};
 ghost use Rattle.answers.specs.declared.KeyRecord.TheVariants.{SeededPublicKey};
-ghost use Rattle.answers.specs.Answers.{andThen};
-ghost use Rattle.records.specs.Layout.{seededKeyMark, seedLength, seededKeyLength};
-ghost use Rattle.records.specs.Records.{headerAnswer, bWord, placeAnswer, seededB, seededKeyBytes};
+ghost use Rattle.answers.specs.Answers.{and_then};
+ghost use Rattle.records.specs.Layout.{seeded_key_mark, seed_length, seeded_key_length};
+ghost use Rattle.records.specs.Records.{header_answer, b_word, place_answer, seeded_b, seeded_key_bytes};
 
 use answers::{Answer, KeyPart, KeyRecord, Refusal};
 use ntt::Element;
@@ -20,9 +20,9 @@ pub struct SeededKey {
 }
 
 pub fn read_seeded_key(bytes: &[u8]) -> SeededKey
-    requires { length bytes.now ≡ seededKeyLength }
-    ensures header_value { result.header ≡ headerAnswer seededKeyMark 1 bytes.now }
-    ensures b_value { (result.b ≡ seededB bytes.now) × (result.unreduced ≡ firstUnreduced (seededB bytes.now)) }
+    requires { length bytes.now ≡ seeded_key_length }
+    ensures header_value { result.header ≡ header_answer seeded_key_mark 1 bytes.now }
+    ensures b_value { (result.b ≡ seeded_b bytes.now) × (result.unreduced ≡ first_unreduced (seeded_b bytes.now)) }
 {
     let b = encoding::decode_element(&bytes[SEEDED_B..SEEDED_KEY_LENGTH]);
     SeededKey {
@@ -34,7 +34,7 @@ pub fn read_seeded_key(bytes: &[u8]) -> SeededKey
 
 // What the checks of the record answer: mark, version, then words, of which the first that is q or more is named.
 pub fn record_answer(read: SeededKey) -> Answer
-    ensures { result ≡ andThen read.header (placeAnswer read.unreduced (bWord SeededPublicKey read.unreduced)) }
+    ensures { result ≡ and_then read.header (place_answer read.unreduced (b_word SeededPublicKey read.unreduced)) }
 {
     let header = read.header;
     let at = read.unreduced;
@@ -44,8 +44,8 @@ pub fn record_answer(read: SeededKey) -> Answer
 }
 
 pub fn write_seeded_key(seed: &[u8], b: Element, out: &mut [u8])
-    requires { (length seed.now ≡ seedLength) × (length out.old ≡ seededKeyLength) }
-    ensures { out.new ≡ seededKeyBytes seed.now b }
+    requires { (length seed.now ≡ seed_length) × (length out.old ≡ seeded_key_length) }
+    ensures { out.new ≡ seeded_key_bytes seed.now b }
 {
     encoding::encode_header(SEEDED_KEY_MARK, 1, &mut out[0..SEED]);
     octets::copy(seed, &mut out[SEED..SEEDED_B]);

@@ -4,9 +4,9 @@ use mathlib.Core.List.{List}
 use Prim.Native.Nat.{ℕ}
 use lib.ListN.{length}
 use Rattle.shake.proofs.Output.{length-shake128}
-use Rattle.sampling.specs.Stream.{streamLength}
-use Rattle.seeds.specs.Seeds.{seedStream}
+use Rattle.sampling.specs.Stream.{stream_length}
+use Rattle.seeds.specs.Seeds.{seed_stream}
 
-pub length-seedStream : (seed : List ℕ) → length (seedStream seed) ≡ streamLength
-unfolding seedStream
-length-seedStream seed = length-shake128 _ streamLength
+pub length-seed_stream : (seed : List ℕ) → length (seed_stream seed) ≡ stream_length
+unfolding seed_stream
+length-seed_stream seed = length-shake128 _ stream_length

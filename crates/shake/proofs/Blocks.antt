@@ -8,7 +8,7 @@ use native.Mathlib.Omega.{arith}
 use lib.ListN.{length, take, drop, set, length-append, length-drop, length-replicate}
 use lib.Seq.{take_at, take-append-le, drop-append-le, take_all, set_at}
 use Rattle.lists.specs.Table.{zeros}
-use Rattle.lists.proofs.Zeros.{zeros-around}
+use Rattle.lists.proofs.Zeros.{zeros_around}
 use Rattle.shake.specs.Sponge.{block, absorbed, absorb}
 use Rattle.shake.specs.Shake.{padding, padded}
 
@@ -24,13 +24,13 @@ start_fits r n k h = le_trans (mul-le-mul_left r h) (mul-div-le n r)
 
 -- there are fewer blocks than bytes
 -- fewer than r bytes are left, so block k is the last
-pub last-place : (r n k : ℕ) → k ≤ n / r → n - r * k < r → k ≡ n / r
-last-place r n k h l =
+pub last_place : (r n k : ℕ) → k ≤ n / r → n - r * k < r → k ≡ n / r
+last_place r n k h l =
     let parts : n ≡ r * k + (n - r * k) = omega (arith, start_fits r n k h) in
     sym (ap (λ (x : ℕ). x / r) parts ∙ mul-add-div (omega arith) k (n - r * k) ∙ ap (λ (x : ℕ). k + x) (div-eq_of_lt l) ∙ add-zero k)
 
-pub blocks-few : (r n : ℕ) → 1 < r → 2 * (n / r) ≤ n
-blocks-few r n h = le_trans (mul-le-mul_right (n / r) h) (mul-div-le n r)
+pub blocks_few : (r n : ℕ) → 1 < r → 2 * (n / r) ≤ n
+blocks_few r n h = le_trans (mul-le-mul_right (n / r) h) (mul-div-le n r)
 
 -- what is left behind the whole blocks
 pub rest-fits : (r n : ℕ) → 0 < r → (r * (n / r) ≤ n) × (n - r * (n / r) ≡ n % r) × (n % r < r)
@@ -54,17 +54,17 @@ padding-one t r n h l =
     rw (a, b, set_at t 0 (zeros (n - r)) 0x9F (length t) refl) (sym (append_assoc t (0x9F ∷ []) (zeros (n - r))))
 
 -- with room for more
-pub padding-more : (t : List ℕ) (r n : ℕ) → length t + 1 < r → r ≤ n
+pub padding_more : (t : List ℕ) (r n : ℕ) → length t + 1 < r → r ≤ n
     → set (set (t ++ zeros (n - length t)) (length t) 0x1F) (r - 1) 0x80 ≡ (t ++ padding (r - length t)) ++ zeros (n - r)
 unfolding padding
-padding-more t r n h l =
+padding_more t r n h l =
     let q : ℕ = r - 2 - length t in
     let a : n - length t ≡ suc (q + suc (n - r)) = omega arith in
     let b : r - length t ≡ suc (suc q) = omega arith in
     let front : List ℕ = t ++ (0x1F ∷ zeros q) in
     let size : length front ≡ r - 1 = length-append t (0x1F ∷ zeros q) ∙ ap (λ (k : ℕ). length t + suc k) (length-replicate q 0) ∙ omega arith in
     let start : set (t ++ zeros (n - length t)) (length t) 0x1F ≡ front ++ (0 ∷ zeros (n - r)) =
-    rw (a, set_at t 0 (zeros (q + suc (n - r))) 0x1F (length t) refl, zeros-around q (n - r))
+    rw (a, set_at t 0 (zeros (q + suc (n - r))) 0x1F (length t) refl, zeros_around q (n - r))
     (sym (append_assoc t (0x1F ∷ zeros q) (0 ∷ zeros (n - r)))) in
     let end : front ++ (0x80 ∷ zeros (n - r)) ≡ (t ++ (0x1F ∷ (zeros q ++ (0x80 ∷ [])))) ++ zeros (n - r) =
     sym (append_assoc front (0x80 ∷ []) (zeros (n - r))) ∙ ap (λ (p : List ℕ). p ++ zeros (n - r)) (append_assoc t (0x1F ∷ zeros q) (0x80 ∷ [])) in
@@ -109,16 +109,16 @@ module _ (r : ℕ) (some : 0 < r) (m : List ℕ) where
       ap (λ (k : ℕ). k / r) e ∙ mul-div_cancel_left (suc n) some
 
   -- b is the last block and zeros, where t is what is left of the message
-  pub block-end : (k : ℕ) (t b : List ℕ) → k ≡ length m / r → t ≡ take (length m - r * k) (drop (r * k) m)
+  pub block_end : (k : ℕ) (t b : List ℕ) → k ≡ length m / r → t ≡ take (length m - r * k) (drop (r * k) m)
       → b ≡ (t ++ padding (r - length t)) ++ zeros (200 - r) → b ≡ block r k (padded r m) ++ zeros (200 - r)
   unfolding n rest
-  block-end k t b e f g =
+  block_end k t b e f g =
       let whole : t ≡ drop (r * n) m = f ∙ rw e (take_all _ (drop (r * n) m) (le_of_eq (length-drop (r * n) m))) in
       g
       ∙ ap (λ (l : List ℕ). l ++ zeros (200 - r))
       (ap (λ (l : List ℕ). l ++ padding (r - length l)) whole ∙ sym block_last ∙ ap (λ (k : ℕ). block r k (padded r m)) (sym e))
 
   -- all blocks are absorbed
-  pub absorb-all : absorbed r (length m / r + 1) (padded r m) ≡ absorb r (padded r m)
+  pub absorb_all : absorbed r (length m / r + 1) (padded r m) ≡ absorb r (padded r m)
   unfolding absorb n
-  absorb-all = rw (blocks, add-one)
+  absorb_all = rw (blocks, add-one)

@@ -6,7 +6,7 @@ use native.Mathlib.Nat.{mul-zero, mul-suc, mul-add-div, mul-add-mod_self_left, d
 use native.Mathlib.Numerals.{add-one}
 use native.Mathlib.Omega.{arith}
 use lib.ListN.{length, take, drop}
-use Rattle.lists.specs.Table.{table, tableFrom}
+use Rattle.lists.specs.Table.{table, table_from}
 use Rattle.lists.proofs.Tables.{length-table, table-append, table_same, take-table, part-table}
 use Rattle.lists.proofs.Parts.{length_part}
 use Rattle.lists.proofs.Fill.{Filled, filled-part, filled-all}
@@ -34,7 +34,7 @@ module _ (r : ℕ) (rate : Rate r) (s : State) where
       ∙ sym (part-table (r * n) k d (byte_at r s) l ∙ table_same k (λ j. byte_at r s (r * n + j)) (byte_of (permuted n s)) (λ j g. block-bytes n j (omega arith)))
 
   squeezed-table : (n : ℕ) → squeezed r n s ≡ table (r * n) (byte_at r s)
-  unfolding squeezed table tableFrom
+  unfolding squeezed table table_from
   squeezed-table zero = rw mul-zero
   squeezed-table (suc n) =
       let same = table_same r (byte_of (permuted n s)) (λ j. byte_at r s (r * n + j)) (λ j h. sym (block-bytes n j h)) in
@@ -60,10 +60,10 @@ module _ (r : ℕ) (rate : Rate r) (s : State) where
       filled-part part (e - r * k) f long (omega arith) h bytes
 
 -- an empty buffer is full
-pub squeeze-none : (r : ℕ) (s : State) (out : List ℕ) → length out ≡ 0 → out ≡ squeeze r s (length out)
+pub squeeze_none : (r : ℕ) (s : State) (out : List ℕ) → length out ≡ 0 → out ≡ squeeze r s (length out)
 unfolding squeeze
-squeeze-none r s [] h = refl
-squeeze-none r s (x ∷ xs) h = absurd (omega arith)
+squeeze_none r s [] h = refl
+squeeze_none r s (x ∷ xs) h = absurd (omega arith)
 
 -- ---- a SHAKE of any rate
 
@@ -73,9 +73,9 @@ module _ (r : ℕ) (rate : Rate r) (m : List ℕ) where
   length-shake d = rw (squeeze-table r rate (absorb r (padded r m)) d) (length-table d _)
 
   -- the first n bytes of a longer output are the output of length n
-  pub shake-prefix : (n d : ℕ) → n ≤ d → take n (shake r m d) ≡ shake r m n
+  pub shake_prefix : (n d : ℕ) → n ≤ d → take n (shake r m d) ≡ shake r m n
   unfolding shake
-  shake-prefix n d h =
+  shake_prefix n d h =
       let s : State = absorb r (padded r m) in
       rw (squeeze-table r rate s d, squeeze-table r rate s n) (take-table n d (byte_at r s) h)
 
@@ -88,9 +88,9 @@ pub length-shake128 : (m : List ℕ) (d : ℕ) → length (shake128 m d) ≡ d
 unfolding shake128
 length-shake128 = length-shake 168 rate128
 
-pub shake128-prefix : (m : List ℕ) (n d : ℕ) → n ≤ d → take n (shake128 m d) ≡ shake128 m n
+pub shake128_prefix : (m : List ℕ) (n d : ℕ) → n ≤ d → take n (shake128 m d) ≡ shake128 m n
 unfolding shake128
-shake128-prefix = shake-prefix 168 rate128
+shake128_prefix = shake_prefix 168 rate128
 
 -- ---- SHAKE256
 
@@ -101,6 +101,6 @@ pub length-shake256 : (m : List ℕ) (d : ℕ) → length (shake256 m d) ≡ d
 unfolding shake256
 length-shake256 = length-shake 136 rate256
 
-pub shake256-prefix : (m : List ℕ) (n d : ℕ) → n ≤ d → take n (shake256 m d) ≡ shake256 m n
+pub shake256_prefix : (m : List ℕ) (n d : ℕ) → n ≤ d → take n (shake256 m d) ≡ shake256 m n
 unfolding shake256
-shake256-prefix = shake-prefix 136 rate256
+shake256_prefix = shake_prefix 136 rate256

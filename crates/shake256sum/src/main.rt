@@ -2,8 +2,8 @@
 // memory whole: it has at most 1,048,576 bytes.
 ghost use Rattle.std.specs.Prelude.{◌≡◌, ◌≤◌, length};
 ghost use Rattle.lists.specs.Table.{zeros};
-ghost use Rattle.hex.specs.Hex.{written};
-ghost use Rattle.shake256sum.specs.Line.{line_of, tooLong, standardOutput, standardError};
+ghost use Rattle.hexadecimal.specs.Hex.{written};
+ghost use Rattle.shake256sum.specs.Line.{line_of, too_long, standard_output, standard_error};
 
 use libc::{STDERR_FILENO, STDIN_FILENO, STDOUT_FILENO};
 
@@ -16,7 +16,7 @@ fn line_of(message: &[u8]) -> [u8; 65]
     let mut output = [0u8; 32];
     shake::shake256(message, &mut output);
     let mut line = [0u8; 65];
-    hex::encode(&output, &mut line);
+    hexadecimal::encode(&output, &mut line);
     line[64] = b'\n';
     line
 }
@@ -32,10 +32,10 @@ struct Printed {
 
 // What the program prints for an input of any length.
 fn shake256sum(input: &[u8]) -> Printed
-    ensures line_value { result.line ≡ written (standardOutput input.now) (zeros 65) }
-    ensures shown_value { (result.shown ≡ length (standardOutput input.now)) × (result.shown ≤ 65) }
-    ensures error_value { result.error ≡ written (standardError input.now) (zeros 52) }
-    ensures told_value { (result.told ≡ length (standardError input.now)) × (result.told ≤ 52) }
+    ensures line_value { result.line ≡ written (standard_output input.now) (zeros 65) }
+    ensures shown_value { (result.shown ≡ length (standard_output input.now)) × (result.shown ≤ 65) }
+    ensures error_value { result.error ≡ written (standard_error input.now) (zeros 52) }
+    ensures told_value { (result.told ≡ length (standard_error input.now)) × (result.told ≤ 52) }
 {
     if input.len() > MOST {
         return Printed {

@@ -1,12 +1,12 @@
 // States as strings of bytes, FIPS 202, section 3.1.3: the first bytes of a state's string stored.
 ghost use Rattle.std.specs.Prelude.{◌≡◌, ◌≤◌, length, take};
 ghost use Rattle.lists.specs.Table.{table};
-ghost use Rattle.state_to_string.specs.Bytes.{laneByte, bytes_of};
+ghost use Rattle.state_to_string.specs.Bytes.{lane_byte, bytes_of};
 
 // Stores a lane as eight bytes.
 fn put_lane(out: &mut [u8], v: u64)
     requires { length out.old ≡ 8 }
-    ensures { out.new ≡ table 8 (laneByte v) }
+    ensures { out.new ≡ table 8 (lane_byte v) }
 {
     out[0] = (v % 256) as u8;
     out[1] = ((v >> 8) % 256) as u8;
@@ -21,7 +21,7 @@ fn put_lane(out: &mut [u8], v: u64)
 // Stores the first bytes of a lane, as many as `out` has.
 fn put_lane_part(out: &mut [u8], v: u64)
     requires { length out.old ≤ 8 }
-    ensures { out.new ≡ table (length out.old) (laneByte v) }
+    ensures { out.new ≡ table (length out.old) (lane_byte v) }
 {
     let n = out.len();
     for j in 0..n {

@@ -10,14 +10,14 @@ use lib.ListN.{length, length-replicate, take, drop, set, length-set, length-app
 use lib.Seq.{take_all, take-set-le, take-take, set_split, drop_at, length-take-le}
 use borrow.Author.Tests.{lt-ltb, le-ltb}
 use Rattle.lists.specs.Table.{zeros}
-use Rattle.text.specs.Text.{digitsOf, decimal}
+use Rattle.text.specs.Text.{digits_of, decimal}
 
-digits-one : (k n : ℕ) → n < 10 → digitsOf (suc k) n ≡ (48 + n) ∷ []
-unfolding digitsOf
+digits-one : (k n : ℕ) → n < 10 → digits_of (suc k) n ≡ (48 + n) ∷ []
+unfolding digits_of
 digits-one k n h = rw (lt-ltb n 10 h)
 
-digits_more : (k n : ℕ) → 10 ≤ n → digitsOf (suc k) n ≡ digitsOf k (n / 10) ++ ((48 + n % 10) ∷ [])
-unfolding digitsOf
+digits_more : (k n : ℕ) → 10 ≤ n → digits_of (suc k) n ≡ digits_of k (n / 10) ++ ((48 + n % 10) ∷ [])
+unfolding digits_of
 digits_more k n h = rw (le-ltb n 10 h)
 
 take-zeros : (k m : ℕ) → k ≤ m → take k (zeros m) ≡ zeros k
@@ -31,7 +31,7 @@ pub record Written (n : ℕ) (bytes : List ℕ) (left i : ℕ) : Type 0 where
   pub within : i < 20
   pub small : left < 10 ^ suc i
   pub empty : take (suc i) bytes ≡ zeros (suc i)
-  pub digits : decimal n ≡ digitsOf (suc i) left ++ drop (suc i) bytes
+  pub digits : decimal n ≡ digits_of (suc i) left ++ drop (suc i) bytes
 
 pub written_none : (n : ℕ) → n < 18446744073709551616 → Written n (zeros 20) n 19
 written_none n h = record { size = refl; within = omega arith; small = omega arith; empty = refl; digits = sym (append-nil (decimal n)) }
@@ -41,9 +41,9 @@ pub not_first : {n left i : ℕ} {bytes : List ℕ} → Written n bytes left i �
 not_first {i = zero} w h = absurd (omega (arith, w.small))
 not_first {i = suc j} w h = omega arith
 
-pub written-more : {n left i v j : ℕ} {bytes : List ℕ} → Written n bytes left i → 10 ≤ left → v ≡ 48 + left % 10 → i ≡ suc j
+pub written_more : {n left i v j : ℕ} {bytes : List ℕ} → Written n bytes left i → 10 ≤ left → v ≡ 48 + left % 10 → i ≡ suc j
     → Written n (set bytes i v) (left / 10) j
-written-more {n} {left} {i} {v} {j} {bytes} w h ev e = record {
+written_more {n} {left} {i} {v} {j} {bytes} w h ev e = record {
   size = length-set bytes i v ∙ w.size;
   within = omega (arith, w.within);
   small =
@@ -52,9 +52,9 @@ written-more {n} {left} {i} {v} {j} {bytes} w h ev e = record {
       omega arith;
   empty = take-set-le (suc j) bytes i v (omega arith) ∙ sym (take-take (suc j) (suc i) bytes (omega arith)) ∙ ap (take (suc j)) w.empty
       ∙ take-zeros (suc j) (suc i) (omega arith);
-  digits = w.digits ∙ ap (λ (l : List ℕ). l ++ drop (suc i) bytes) (digits_more i left h ∙ ap₂ (λ (k d : ℕ). digitsOf k (left / 10) ++ (d ∷ [])) e (sym ev))
-      ∙ append_assoc (digitsOf (suc j) (left / 10)) (v ∷ []) (drop (suc i) bytes)
-      ∙ ap (λ (l : List ℕ). digitsOf (suc j) (left / 10) ++ l) (sym behind);
+  digits = w.digits ∙ ap (λ (l : List ℕ). l ++ drop (suc i) bytes) (digits_more i left h ∙ ap₂ (λ (k d : ℕ). digits_of k (left / 10) ++ (d ∷ [])) e (sym ev))
+      ∙ append_assoc (digits_of (suc j) (left / 10)) (v ∷ []) (drop (suc i) bytes)
+      ∙ ap (λ (l : List ℕ). digits_of (suc j) (left / 10) ++ l) (sym behind);
 }
   where
     behind : drop (suc j) (set bytes i v) ≡ v ∷ drop (suc i) bytes
@@ -89,11 +89,11 @@ last_digits n {start} {bytes} size b e =
     ∙ take_all (20 - start) (decimal n) (omega (arith, size, sum, pad))
 
 -- a number has no more digits than its bound says
-pub length_digits : (k n : ℕ) → length (digitsOf k n) ≤ k
-unfolding digitsOf
+pub length_digits : (k n : ℕ) → length (digits_of k n) ≤ k
+unfolding digits_of
 length_digits zero n = omega arith
 length_digits (suc k) n = by (ltb n 10) (length_digits k (n / 10))
   where
-    by : (b : Bool) → length (digitsOf k (n / 10)) ≤ k → length (cond b ((48 + n) ∷ []) (digitsOf k (n / 10) ++ ((48 + n % 10) ∷ []))) ≤ suc k
+    by : (b : Bool) → length (digits_of k (n / 10)) ≤ k → length (cond b ((48 + n) ∷ []) (digits_of k (n / 10) ++ ((48 + n % 10) ∷ []))) ≤ suc k
     by true h = omega arith
-    by false h = omega (arith, length-append (digitsOf k (n / 10)) ((48 + n % 10) ∷ []))
+    by false h = omega (arith, length-append (digits_of k (n / 10)) ((48 + n % 10) ∷ []))

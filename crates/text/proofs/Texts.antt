@@ -14,8 +14,8 @@ pub written-fits : (s out : List ℕ) → length s ≤ length out → written s 
 written-fits s out h = rw (take_all (length out) s h)
 
 -- the buffer is full before the text ends
-pub written-full : (s out : List ℕ) → length out ≤ length s → written s out ≡ take (length out) s
-written-full s out h = rw (drop_of_length-le out {i = length s} h) (append-nil _)
+pub written_full : (s out : List ℕ) → length out ≤ length s → written s out ≡ take (length out) s
+written_full s out h = rw (drop_of_length-le out {i = length s} h) (append-nil _)
 
 -- the front of a text that there is room for
 pub written-front : (k : ℕ) (s out : List ℕ) → k ≤ length s → length s ≤ length out → take k (written s out) ≡ take k s
@@ -36,30 +36,30 @@ copied s out n e = by (dec_le (length s) (length out))
         ap₂ ◌++◌ (take_all n s (omega arith)) (ap (λ (k : ℕ). drop k out) m) ∙ sym (written-fits s out h)
     by (no h) =
         let m : n ≡ length out = omega arith in
-        ap₂ ◌++◌ (ap (λ (k : ℕ). take k s) m) (drop_of_length-le out {i = n} (omega arith)) ∙ append-nil _ ∙ sym (written-full s out (omega arith))
+        ap₂ ◌++◌ (ap (λ (k : ℕ). take k s) m) (drop_of_length-le out {i = n} (omega arith)) ∙ append-nil _ ∙ sym (written_full s out (omega arith))
 
 -- `text` stands at the front of a buffer that held `old`, as far as there is room, and ends at `at`
 pub record Put (text old now : List ℕ) (at : ℕ) : Type 0 where
   pub bytes : now ≡ written text old
   pub end : at ≡ min (length text) (length old)
 
-pub put-none : (old : List ℕ) → Put [] old old 0
-put-none old = record { bytes = sym (written-fits [] old (omega arith)); end = omega arith }
+pub put_none : (old : List ℕ) → Put [] old old 0
+put_none old = record { bytes = sym (written-fits [] old (omega arith)); end = omega arith }
 
 pub length-written : (s out : List ℕ) → length (written s out) ≡ length out
 length-written s out = by (dec_le (length s) (length out))
   where
     by : Dec (length s ≤ length out) → length (written s out) ≡ length out
     by (yes h) = rw (written-fits s out h) (omega (arith, length-append s (drop (length s) out), length-drop (length s) out))
-    by (no h) = rw (written-full s out (omega arith)) (length-take-le (length out) s (omega arith))
+    by (no h) = rw (written_full s out (omega arith)) (length-take-le (length out) s (omega arith))
 
 pub put-within : {text old now : List ℕ} {at : ℕ} → Put text old now at → at ≤ length now
 put-within {text} {old} p = omega (arith, p.end, ap length p.bytes, length-written text old)
 
 -- one piece more
-pub put-more : {text old now next : List ℕ} {at end : ℕ} (s : List ℕ) → Put text old now at → end ≡ min (at + length s) (length now)
+pub put_more : {text old now next : List ℕ} {at end : ℕ} (s : List ℕ) → Put text old now at → end ≡ min (at + length s) (length now)
     → next ≡ take at now ++ written s (drop at now) → Put (text ++ s) old next end
-put-more {text} {old} {now} {next} {at} {end} s p e b = record {
+put_more {text} {old} {now} {next} {at} {end} s p e b = record {
   bytes = b ∙ ap (λ (x : List ℕ). take at x ++ written s (drop at x)) p.bytes ∙ by (dec_le (length text) (length old));
   end = omega (arith, e, p.end, ap length p.bytes, length-written text old, length-append text s);
 }
@@ -78,10 +78,10 @@ put-more {text} {old} {now} {next} {at} {end} s p e b = record {
     by (no h) =
         let m : at ≡ length old = omega (arith, p.end) in
         let front : length (take (length old) text) ≡ length old = length-take-le (length old) text (omega arith) in
-        rw (written-full text old (omega arith), take_all at (take (length old) text) (omega arith), drop_of_length-le (take (length old) text) {i = at} (omega arith))
+        rw (written_full text old (omega arith), take_all at (take (length old) text) (omega arith), drop_of_length-le (take (length old) text) {i = at} (omega arith))
         (ap (λ (x : List ℕ). take (length old) text ++ x) (drop-nil (length s)) ∙ append-nil _
         ∙ sym (take-append-le (length old) text s (omega arith))
-        ∙ sym (written-full (text ++ s) old (omega (arith, length-append text s))))
+        ∙ sym (written_full (text ++ s) old (omega (arith, length-append text s))))
 
 -- where there is room for all of it
 pub put_all : {text old now : List ℕ} {at : ℕ} → Put text old now at → length text ≤ length old → at ≡ length text

@@ -6,26 +6,26 @@ use native.Mathlib.Omega.{arith}
 use lib.ListN.{length, length-append}
 use Rattle.algebra.specs.Numbers.{Below}
 use Rattle.algebra.proofs.Numbers.{below-append}
-use Rattle.encoding.specs.Codes.{ternaryBytes}
-use Rattle.encoding.proofs.Codes.{length-ternaryBytes, ternaryBytes-below}
-use Rattle.records.specs.Layout.{tripleLength}
-use Rattle.triples.specs.Triple.{tripleBytes}
+use Rattle.encoding.specs.Codes.{ternary_bytes}
+use Rattle.encoding.proofs.Codes.{length-ternary_bytes, ternary_bytes-below}
+use Rattle.records.specs.Layout.{triple_length}
+use Rattle.triples.specs.Triple.{triple_bytes}
 
 module _ (r e1 e2 : List ℕ) where
-  pub length-tripleBytes : length (tripleBytes r e1 e2) ≡ tripleLength
-  unfolding tripleBytes
-  length-tripleBytes =
+  pub length-triple_bytes : length (triple_bytes r e1 e2) ≡ triple_length
+  unfolding triple_bytes
+  length-triple_bytes =
       omega (
         arith,
-        length-append (ternaryBytes r ++ ternaryBytes e1) (ternaryBytes e2),
-        length-append (ternaryBytes r) (ternaryBytes e1),
-        length-ternaryBytes r,
-        length-ternaryBytes e1,
-        length-ternaryBytes e2,
+        length-append (ternary_bytes r ++ ternary_bytes e1) (ternary_bytes e2),
+        length-append (ternary_bytes r) (ternary_bytes e1),
+        length-ternary_bytes r,
+        length-ternary_bytes e1,
+        length-ternary_bytes e2,
       )
 
-  pub tripleBytes-below : Below 256 (tripleBytes r e1 e2)
-  unfolding tripleBytes
-  tripleBytes-below =
-      below-append 256 (ternaryBytes r ++ ternaryBytes e1) (ternaryBytes e2)
-      (below-append 256 (ternaryBytes r) (ternaryBytes e1) (ternaryBytes-below r) (ternaryBytes-below e1)) (ternaryBytes-below e2)
+  pub triple_bytes-below : Below 256 (triple_bytes r e1 e2)
+  unfolding triple_bytes
+  triple_bytes-below =
+      below-append 256 (ternary_bytes r ++ ternary_bytes e1) (ternary_bytes e2)
+      (below-append 256 (ternary_bytes r) (ternary_bytes e1) (ternary_bytes-below r) (ternary_bytes-below e1)) (ternary_bytes-below e2)

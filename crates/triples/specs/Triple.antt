@@ -1,38 +1,38 @@
 -- A triple of ternary polynomials as bytes: r, e1, e2, one behind the other.
 use Rattle.std.specs.Prelude.{List, ◌++◌, ℕ}
 use Rattle.scheme.specs.Scheme.{Triple}
-use Rattle.encoding.specs.Codes.{ternaryOf, ternaryBytes}
+use Rattle.encoding.specs.Codes.{ternary_of, ternary_bytes}
 use Rattle.answers.specs.declared.Answer.{Answer}
-use Rattle.answers.specs.Answers.{andThen}
-use Rattle.records.specs.Layout.{ternaryLength}
-use Rattle.records.specs.Records.{part, codesAnswer}
+use Rattle.answers.specs.Answers.{and_then}
+use Rattle.records.specs.Layout.{ternary_length}
+use Rattle.records.specs.Records.{part, codes_answer}
 
 -- the codes of r, e1 and e2
-abbrev pub rPart : List ℕ → List ℕ
-rPart bytes = part 0 ternaryLength bytes
+abbrev pub r_part : List ℕ → List ℕ
+r_part bytes = part 0 ternary_length bytes
 
-abbrev pub e1Part : List ℕ → List ℕ
-e1Part bytes = part 256 ternaryLength bytes
+abbrev pub e1_part : List ℕ → List ℕ
+e1_part bytes = part 256 ternary_length bytes
 
-abbrev pub e2Part : List ℕ → List ℕ
-e2Part bytes = part 512 ternaryLength bytes
+abbrev pub e2_part : List ℕ → List ℕ
+e2_part bytes = part 512 ternary_length bytes
 
-abbrev pub rOf : List ℕ → List ℕ
-rOf bytes = ternaryOf (rPart bytes)
+abbrev pub r_of : List ℕ → List ℕ
+r_of bytes = ternary_of (r_part bytes)
 
-abbrev pub e1Of : List ℕ → List ℕ
-e1Of bytes = ternaryOf (e1Part bytes)
+abbrev pub e1_of : List ℕ → List ℕ
+e1_of bytes = ternary_of (e1_part bytes)
 
-abbrev pub e2Of : List ℕ → List ℕ
-e2Of bytes = ternaryOf (e2Part bytes)
+abbrev pub e2_of : List ℕ → List ℕ
+e2_of bytes = ternary_of (e2_part bytes)
 
 abbrev pub triple_of : List ℕ → Triple
-triple_of bytes = record { r = rOf bytes; e1 = e1Of bytes; e2 = e2Of bytes }
+triple_of bytes = record { r = r_of bytes; e1 = e1_of bytes; e2 = e2_of bytes }
 
 -- 5
-unfoldable pub tripleAnswer : List ℕ → Answer
-tripleAnswer bytes = andThen (codesAnswer (rPart bytes)) (andThen (codesAnswer (e1Part bytes)) (codesAnswer (e2Part bytes)))
+unfoldable pub triple_answer : List ℕ → Answer
+triple_answer bytes = and_then (codes_answer (r_part bytes)) (and_then (codes_answer (e1_part bytes)) (codes_answer (e2_part bytes)))
 
 -- the 768 bytes of a triple
-unfoldable pub tripleBytes : (r e1 e2 : List ℕ) → List ℕ
-tripleBytes r e1 e2 = ternaryBytes r ++ ternaryBytes e1 ++ ternaryBytes e2
+unfoldable pub triple_bytes : (r e1 e2 : List ℕ) → List ℕ
+triple_bytes r e1 e2 = ternary_bytes r ++ ternary_bytes e1 ++ ternary_bytes e2

@@ -1,9 +1,9 @@
 // A triple of ternary polynomials as bytes: what the check of its codes answers, its parts, and how it is written.
 ghost use Rattle.std.specs.Prelude.{◌≡◌, length};
 ghost use Rattle.scheme.specs.Answers as Struct;
-ghost use Rattle.encoding.specs.Buffers.{putFront};
-ghost use Rattle.records.specs.Layout.{tripleLength};
-ghost use Rattle.triples.specs.Triple.{triple_of, tripleAnswer, tripleBytes};
+ghost use Rattle.encoding.specs.Buffers.{put_front};
+ghost use Rattle.records.specs.Layout.{triple_length};
+ghost use Rattle.triples.specs.Triple.{triple_of, triple_answer, triple_bytes};
 
 use answers::Answer;
 use encoding::TERNARY_LENGTH;
@@ -18,8 +18,8 @@ const E2: usize = 2 * TERNARY_LENGTH;
 
 // 5: no code of a triple is 3.
 pub fn check_triple(bytes: &[u8]) -> Answer
-    requires { length bytes.now ≡ tripleLength }
-    ensures { result ≡ tripleAnswer bytes.now }
+    requires { length bytes.now ≡ triple_length }
+    ensures { result ≡ triple_answer bytes.now }
 {
     let r = records::check_codes(&bytes[0..E1]);
     let e1 = records::check_codes(&bytes[E1..E2]);
@@ -29,7 +29,7 @@ pub fn check_triple(bytes: &[u8]) -> Answer
 
 // Of 768 bytes, whatever their codes.
 pub fn read_triple(bytes: &[u8]) -> Triple
-    requires { length bytes.now ≡ tripleLength }
+    requires { length bytes.now ≡ triple_length }
     ensures { Struct.triple_of result ≡ triple_of bytes.now }
 {
     let r = encoding::decode_ternary(&bytes[0..E1]);
@@ -40,7 +40,7 @@ pub fn read_triple(bytes: &[u8]) -> Triple
 
 // Writes the bytes of a triple at the front of a buffer; one that is too short stays as it came.
 pub fn write_triple(r: Element, e1: Element, e2: Element, out: &mut [u8])
-    ensures { out.new ≡ putFront (tripleBytes r e1 e2) out.old }
+    ensures { out.new ≡ put_front (triple_bytes r e1 e2) out.old }
 {
     if out.len() >= TRIPLE_LENGTH {
         encoding::encode_ternary(r, &mut out[0..E1]);

@@ -9,9 +9,9 @@ use lib.ListN.{length, get_or, take, drop, set, length-append, length-drop, get_
 use lib.Pow.{pow_pos, pow-add}
 use lib.Seq.{length-take-le, take_at, take-add, take-take, get_or-append-add, get_or-take, get_or-drop}
 use Rattle.lists.specs.Table.{table}
-use Rattle.lists.proofs.Tables.{length-table, getD-table, table_same, take-table, part-table}
+use Rattle.lists.proofs.Tables.{length-table, get_or-table, table_same, take-table, part-table}
 use Rattle.lists.proofs.Fill.{Filled, filled_none, filled_more, filled_at, filled-part, filled-all}
-use Rattle.lists.proofs.ByteLists.{part-getD}
+use Rattle.lists.proofs.ByteLists.{part-get_or}
 use Rattle.twiddles.specs.Factors.{block_of}
 
 -- ---- a list of m + m entries, whose first half is copied to the second
@@ -26,8 +26,8 @@ module _ (w : List ℕ) (m : ℕ) (size : length w ≡ m + m) where
   pub doubled-size : length doubled ≡ m + m
   doubled-size = length-append (take m w) (take m w) ∙ ap₂ (λ (x y : ℕ). x + y) half half
 
-  pub doubled-none : Filled (m + m) doubled w (m + 0)
-  doubled-none =
+  pub doubled_none : Filled (m + m) doubled w (m + 0)
+  doubled_none =
       let all : m + 0 ≡ m = omega arith in
       record {
         within = omega arith;
@@ -42,8 +42,8 @@ module _ (w : List ℕ) (m : ℕ) (size : length w ≡ m + m) where
       get_or-append (take m w) (take m w) 0 i (omega (arith, half))
       ∙ sym (ap (λ (n : ℕ). get_or doubled (n + i) 0) (sym half) ∙ get_or-append-add (take m w) (take m w) i 0)
 
-  pub doubled-more : {out : List ℕ} (i : ℕ) → i < m → Filled (m + m) doubled out (m + i) → Filled (m + m) doubled (set out (m + i) (get_or out i 0)) (m + i + 1)
-  doubled-more i h f = filled_more 0 f (omega arith) (filled_at 0 i f (omega arith) ∙ twice i h)
+  pub doubled_more : {out : List ℕ} (i : ℕ) → i < m → Filled (m + m) doubled out (m + i) → Filled (m + m) doubled (set out (m + i) (get_or out i 0)) (m + i + 1)
+  doubled_more i h f = filled_more 0 f (omega arith) (filled_at 0 i f (omega arith) ∙ twice i h)
 
 -- ---- the row
 
@@ -62,7 +62,7 @@ row-none w k size h =
       whole = length-table 512 _;
       size = size;
       same =
-          part-getD 0 (2 ^ k) w (omega arith)
+          part-get_or 0 (2 ^ k) w (omega arith)
           ∙ table_same (2 ^ k) _ _ (λ j l. ap (λ (n : ℕ). get_or w n 0) (zero-add j ∙ sym (mod-eq_of_lt l)))
           ∙ sym (take-table (2 ^ k) 512 _ few);
     }
@@ -93,15 +93,15 @@ row_more w out part k d n same h l f =
     (filled-part part (m + m - 0) (filled_none (row w k) out (length-table 512 _) f.size)
     (ap length whole ∙ length-take-le (m + m - 0) (row w k) (omega (arith, length-table 512 (λ j. get_or w (j % 2 ^ k) 0)))) (omega arith) few whole))
 
-pub row-all : {s out : List ℕ} (d : ℕ) → 9 ≤ d → d ≤ 9 → Filled 512 s out (2 ^ d) → out ≡ s
-row-all d h l f =
+pub row_all : {s out : List ℕ} (d : ℕ) → 9 ≤ d → d ≤ 9 → Filled 512 s out (2 ^ d) → out ≡ s
+row_all d h l f =
     let all : 9 ≡ d = omega arith in
     filled-all f (le_of_eq (ap (λ (n : ℕ). 2 ^ n) all))
 
 -- a row that begins with the factors of its blocks, n = 2^k of them
-pub row-of-blocks : (f first rest : List ℕ) (k n : ℕ) → n ≡ 2 ^ k → k < 10 → length f ≡ 1024 → first ≡ take n (drop n f)
+pub row_of_blocks : (f first rest : List ℕ) (k n : ℕ) → n ≡ 2 ^ k → k < 10 → length f ≡ 1024 → first ≡ take n (drop n f)
     → row (first ++ rest) k ≡ table 512 (λ j. get_or f (block_of k j) 0)
-row-of-blocks f first rest k n same h size e =
+row_of_blocks f first rest k n same h size e =
     let few : 2 ^ k ≤ 512 = small k h in
     let long : length first ≡ n = ap length e ∙ length-take-le n (drop n f) (omega (arith, length-drop n f)) in
     table_same 512 _ _ (λ j l.

@@ -5,7 +5,7 @@ use Prim.Native.Nat.{ℕ, zero, suc, ◌+◌, ◌*◌, ◌/◌, ◌%◌, ◌<◌
 use native.Mathlib.Omega.{arith}
 use lib.Dec.{eqb, eqb→eq, ltb, ltb→lt}
 use lib.ListN.{take}
-use Rattle.lists.specs.Table.{table, tableFrom}
+use Rattle.lists.specs.Table.{table, table_from}
 use Rattle.lists.proofs.Tables.{take-table}
 use Rattle.lists.proofs.Finite.{at_each}
 use Rattle.algebra.specs.Halving.{reversed}
@@ -15,7 +15,7 @@ unfolding reversed
 reversed-one = refl
 
 pub reversed-start : take 2 (table 1024 (reversed 10)) ≡ 0 ∷ 512 ∷ []
-reversed-start = take-table 2 1024 (reversed 10) (omega arith) ∙ unfold table tableFrom reversed in refl
+reversed-start = take-table 2 1024 (reversed 10) (omega arith) ∙ unfold table table_from reversed in refl
 
 -- the lowest bit of m becomes the highest
 pub reversed_step : (m : ℕ) → m < 1024 → 2 * reversed 10 m ≡ reversed 10 (m / 2) + 1024 * (m % 2)

@@ -5,9 +5,9 @@ ghost use Rattle.std.specs.Prelude.{◌≡◌, ◌++◌, ◌+◌, ◌-◌, ◌/�
 ghost use Rattle.lists.specs.Table.{table};
 ghost use Rattle.algebra.specs.Halving.{reversed};
 ghost use Rattle.algebra.specs.Numbers.{scale};
-ghost use Rattle.modq.specs.Montgomery.{montgomeryForm, fromMontgomery};
-ghost use Rattle.twiddles.specs.Powers.{q, degree, power, powersTable, powerForms};
-ghost use Rattle.twiddles.specs.Factors.{block_of, forwardFactors, backwardFactors};
+ghost use Rattle.modq.specs.Montgomery.{montgomery_form, from_montgomery};
+ghost use Rattle.twiddles.specs.Powers.{q, degree, power, powers_table, power_forms};
+ghost use Rattle.twiddles.specs.Factors.{block_of, forward_factors, backward_factors};
 
 // The degree of the ring.
 pub const DEGREE: usize = 1024;
@@ -24,7 +24,7 @@ pub const FACTORS: usize = LAYERS * HALF;
 // ---- the table of powers
 
 fn powers() -> [u16; DEGREE]
-    ensures { result ≡ powersTable }
+    ensures { result ≡ powers_table }
 {
     table::POWERS
 }
@@ -34,7 +34,7 @@ fn powers() -> [u16; DEGREE]
 // Each word times the number whose form is w.
 pub fn scaled(w: u16, a: [u16; DEGREE]) -> [u16; DEGREE]
     requires { w < q }
-    ensures { result ≡ scale q degree (fromMontgomery w) a }
+    ensures { result ≡ scale q degree (from_montgomery w) a }
 {
     let mut r = [0u16; DEGREE];
     for i in 0..DEGREE {
@@ -71,14 +71,14 @@ fn opposites(e: [u16; DEGREE]) -> [u16; DEGREE]
 
 // The powers in Montgomery's form: 21894 is the form of 2^16.
 fn power_forms() -> [u16; DEGREE]
-    ensures { result ≡ powerForms }
+    ensures { result ≡ power_forms }
 {
     scaled(21894, powers())
 }
 
 // The powers with the exponents e, in Montgomery's form. No factor has the exponent 1024.
 fn block_factors(e: [u16; DEGREE]) -> [u16; DEGREE]
-    ensures { result ≡ table degree (λ m. montgomeryForm (power (get_or e m 0 % degree))) }
+    ensures { result ≡ table degree (λ m. montgomery_form (power (get_or e m 0 % degree))) }
 {
     let t = power_forms();
     let mut r = [0u16; DEGREE];
@@ -146,7 +146,7 @@ fn pair_factors(w: &mut [u16], f: &[u16])
 
 // The table that the transform to values is lent.
 pub fn forward_factors(w: &mut [u16; FACTORS])
-    ensures { w.new ≡ forwardFactors }
+    ensures { w.new ≡ forward_factors }
 {
     let f = block_factors(exponents());
     pair_factors(w, &f);
@@ -154,7 +154,7 @@ pub fn forward_factors(w: &mut [u16; FACTORS])
 
 // The table that the transform back is lent.
 pub fn backward_factors(w: &mut [u16; FACTORS])
-    ensures { w.new ≡ backwardFactors }
+    ensures { w.new ≡ backward_factors }
 {
     let f = block_factors(opposites(exponents()));
     pair_factors(w, &f);

@@ -7,26 +7,26 @@ use lib.Dec.{eqb}
 use borrow.Author.Tests.{eqb-true, eq-eqb}
 use Rattle.lists.proofs.Maps.{cons}
 use Rattle.lists.proofs.Both.{both}
-use Rattle.vectors.specs.Answers.{same?}
+use Rattle.vectors.specs.Answers.{is_same}
 
-same-itself : (a : List ℕ) → same? a a ≡ true
-unfolding same?
-same-itself [] = refl
-same-itself (x ∷ a) = rw (eq-eqb x x refl, same-itself a)
+same_itself : (a : List ℕ) → is_same a a ≡ true
+unfolding is_same
+same_itself [] = refl
+same_itself (x ∷ a) = rw (eq-eqb x x refl, same_itself a)
 
-same_lists : (a b : List ℕ) → same? a b ≡ true → a ≡ b
-unfolding same?
+same_lists : (a b : List ℕ) → is_same a b ≡ true → a ≡ b
+unfolding is_same
 same_lists [] [] e = refl
 same_lists [] (y ∷ b) e = absurd (false≢true e)
 same_lists (x ∷ a) [] e = absurd (false≢true e)
-same_lists (x ∷ a) (y ∷ b) e = let (head, rest) = both (eqb x y) (same? a b) e in cons (eqb-true x y head) (same_lists a b rest)
+same_lists (x ∷ a) (y ∷ b) e = let (head, rest) = both (eqb x y) (is_same a b) e in cons (eqb-true x y head) (same_lists a b rest)
 
-pub same-yes : {a b : List ℕ} → a ≡ b → true ≡ same? a b
-same-yes {a} e = rw (← e) (sym (same-itself a))
+pub same-yes : {a b : List ℕ} → a ≡ b → true ≡ is_same a b
+same-yes {a} e = rw (← e) (sym (same_itself a))
 
-pub same-no : {a b : List ℕ} → (a ≡ b → ⊥) → false ≡ same? a b
-same-no {a} {b} h = by (same? a b) refl
+pub same-no : {a b : List ℕ} → (a ≡ b → ⊥) → false ≡ is_same a b
+same-no {a} {b} h = by (is_same a b) refl
   where
-    by : (r : Bool) → same? a b ≡ r → false ≡ r
+    by : (r : Bool) → is_same a b ≡ r → false ≡ r
     by true e = absurd (h (same_lists a b e))
     by false e = refl

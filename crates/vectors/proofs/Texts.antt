@@ -13,14 +13,14 @@ use lib.Seq.{take_all, take-nil, drop-cons}
 use borrow.Author.Tests.{eqb-true, eq-eqb, ne_eqb}
 use Rattle.lists.proofs.Both.{both}
 use Rattle.lists.proofs.Parts.{take-to-end}
-use Rattle.vectors.specs.Fields.{endFrom, start, field, hasField, sizedFrom, sized?}
+use Rattle.vectors.specs.Fields.{end_from, start, field, has_field, sized_from, is_sized}
 
 pub start-within : (i : ℕ) (text : List ℕ) → start i text ≤ length text
 unfolding start
 start-within zero text = omega arith
 start-within (suc i) text = omega arith
 
-pub start-next : (i : ℕ) (text : List ℕ) → min (endFrom (start i text) text) (length text) ≡ start (i + 1) text
+pub start-next : (i : ℕ) (text : List ℕ) → min (end_from (start i text) text) (length text) ≡ start (i + 1) text
 unfolding start
 start-next i text = ap (λ (k : ℕ). start k text) (sym (add-one i))
 
@@ -61,35 +61,35 @@ start-some (suc i) text h z = omega arith
 
 module _ (sizes text : List ℕ) (k : ℕ) (h : k < length sizes) where
   -- the test of field k, and of those behind it
-  sized-next : sizedFrom k (drop k sizes) text ≡ hasField k text && eqb (length (field k text)) (get_or sizes k 0) && sizedFrom (k + 1) (drop (k + 1) sizes) text
-  unfolding sizedFrom
+  sized-next : sized_from k (drop k sizes) text ≡ has_field k text && eqb (length (field k text)) (get_or sizes k 0) && sized_from (k + 1) (drop (k + 1) sizes) text
+  unfolding sized_from
   sized-next = rw (drop-cons sizes k 0 h, add-one)
 
-  pub sized-more : hasField k text ≡ true → length (field k text) ≡ get_or sizes k 0
-      → sizedFrom k (drop k sizes) text ≡ sizedFrom (k + 1) (drop (k + 1) sizes) text
-  sized-more whole size = sized-next ∙ rw (whole, eq-eqb (length (field k text)) (get_or sizes k 0) size)
+  pub sized_more : has_field k text ≡ true → length (field k text) ≡ get_or sizes k 0
+      → sized_from k (drop k sizes) text ≡ sized_from (k + 1) (drop (k + 1) sizes) text
+  sized_more whole size = sized-next ∙ rw (whole, eq-eqb (length (field k text)) (get_or sizes k 0) size)
 
-  pub sized-cut : hasField k text ≡ false → false ≡ sizedFrom k (drop k sizes) text
-  sized-cut cut = rw (sized-next, cut)
+  pub sized_cut : has_field k text ≡ false → false ≡ sized_from k (drop k sizes) text
+  sized_cut cut = rw (sized-next, cut)
 
-  pub sized-other : hasField k text ≡ true → (length (field k text) ≡ get_or sizes k 0 → ⊥) → false ≡ sizedFrom k (drop k sizes) text
-  sized-other whole other = rw (sized-next, whole, ne_eqb (length (field k text)) (get_or sizes k 0) other)
+  pub sized_other : has_field k text ≡ true → (length (field k text) ≡ get_or sizes k 0 → ⊥) → false ≡ sized_from k (drop k sizes) text
+  sized_other whole other = rw (sized-next, whole, ne_eqb (length (field k text)) (get_or sizes k 0) other)
 
-pub sized-all : (sizes text : List ℕ) (k : ℕ) → length sizes ≤ k → true ≡ sizedFrom k (drop k sizes) text
-unfolding sizedFrom
-sized-all sizes text k h = rw (drop_of_length-le sizes {i = k} h)
+pub sized_all : (sizes text : List ℕ) (k : ℕ) → length sizes ≤ k → true ≡ sized_from k (drop k sizes) text
+unfolding sized_from
+sized_all sizes text k h = rw (drop_of_length-le sizes {i = k} h)
 
 -- a field of a text whose fields have these sizes
-field-sized : (j : ℕ) (sizes text : List ℕ) (i : ℕ) → sizedFrom j sizes text ≡ true → i < length sizes → length (field (j + i) text) ≡ get_or sizes i 0
-unfolding sizedFrom
-field-sized j [] text i e h = absurd (omega arith)
-field-sized j (size ∷ sizes) text zero e h =
-    let first = (both (hasField j text && eqb (length (field j text)) size) (sizedFrom (suc j) sizes text) e).0 in
-    rw (add-zero j) (eqb-true (length (field j text)) size (both (hasField j text) (eqb (length (field j text)) size) first).1)
-field-sized j (size ∷ sizes) text (suc i) e h =
+field_sized : (j : ℕ) (sizes text : List ℕ) (i : ℕ) → sized_from j sizes text ≡ true → i < length sizes → length (field (j + i) text) ≡ get_or sizes i 0
+unfolding sized_from
+field_sized j [] text i e h = absurd (omega arith)
+field_sized j (size ∷ sizes) text zero e h =
+    let first = (both (has_field j text && eqb (length (field j text)) size) (sized_from (suc j) sizes text) e).0 in
+    rw (add-zero j) (eqb-true (length (field j text)) size (both (has_field j text) (eqb (length (field j text)) size) first).1)
+field_sized j (size ∷ sizes) text (suc i) e h =
     let place : j + suc i ≡ suc j + i = omega arith in
-    let rest = (both (hasField j text && eqb (length (field j text)) size) (sizedFrom (suc j) sizes text) e).1 in
-    rw place (field-sized (suc j) sizes text i rest (omega arith))
+    let rest = (both (has_field j text && eqb (length (field j text)) size) (sized_from (suc j) sizes text) e).1 in
+    rw place (field_sized (suc j) sizes text i rest (omega arith))
 
-pub sized-field : (sizes text : List ℕ) (i : ℕ) → sized? sizes text ≡ true → i < length sizes → length (field i text) ≡ get_or sizes i 0
-sized-field sizes text i e h = rw (zero-add i) at (field-sized 0 sizes text i e h)
+pub sized-field : (sizes text : List ℕ) (i : ℕ) → is_sized sizes text ≡ true → i < length sizes → length (field i text) ≡ get_or sizes i 0
+sized-field sizes text i e h = rw (zero-add i) at (field_sized 0 sizes text i e h)

@@ -9,15 +9,15 @@ use Rattle.vectors.specs.declared.Report.{Report}
 use Rattle.vectors.specs.declared.Report.TheVariants.{Counts, MalformedByte, MalformedLine}
 
 -- whether two lists are the same
-unfoldable pub same? : (a b : List ℕ) → Bool
-same? [] [] = true
-same? [] (y ∷ b) = false
-same? (x ∷ a) [] = false
-same? (x ∷ a) (y ∷ b) = eqb x y && same? a b
+unfoldable pub is_same : (a b : List ℕ) → Bool
+is_same [] [] = true
+is_same [] (y ∷ b) = false
+is_same (x ∷ a) [] = false
+is_same (x ∷ a) (y ∷ b) = eqb x y && is_same a b
 
 -- the verdict by whether a case is sound, and whether it agrees
-abbrev pub verdictOf : Bool → Bool → Verdict
-verdictOf sound agrees = cond sound (cond agrees Agreed Differed) Malformed
+abbrev pub verdict_of : Bool → Bool → Verdict
+verdict_of sound agrees = cond sound (cond agrees Agreed Differed) Malformed
 
 -- what was read fits the buffer
 abbrev pub Within : Contents → List ℕ → Type 0
@@ -26,19 +26,19 @@ Within TooLong buffer = Unit {0}
 Within Missing buffer = Unit {0}
 
 -- the bytes that were read
-abbrev pub bytesRead : Contents → List ℕ → List ℕ
-bytesRead (Bytes n) buffer = take n buffer
-bytesRead TooLong buffer = []
-bytesRead Missing buffer = []
+abbrev pub bytes_read : Contents → List ℕ → List ℕ
+bytes_read (Bytes n) buffer = take n buffer
+bytes_read TooLong buffer = []
+bytes_read Missing buffer = []
 
 -- one more, as far as a word of 64 bits goes
-abbrev pub oneMore : ℕ → ℕ
-oneMore count = min (count + 1) 18446744073709551615
+abbrev pub one_more : ℕ → ℕ
+one_more count = min (count + 1) 18446744073709551615
 
 -- a report with one case more, which starts at a byte; the first malformed case ends the count
 abbrev pub counted : Report → Verdict → ℕ → Report
-counted (Counts agreed differed) Agreed at = Counts (oneMore agreed) differed
-counted (Counts agreed differed) Differed at = Counts agreed (oneMore differed)
+counted (Counts agreed differed) Agreed at = Counts (one_more agreed) differed
+counted (Counts agreed differed) Differed at = Counts agreed (one_more differed)
 counted (Counts agreed differed) Malformed at = MalformedByte at
 counted (MalformedByte place) verdict at = MalformedByte place
 counted (MalformedLine place) verdict at = MalformedLine place

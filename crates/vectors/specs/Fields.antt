@@ -7,42 +7,42 @@ abbrev pub word32 : List ℕ → ℕ
 word32 text = get_or text 0 0 + 256 * get_or text 1 0 + 65536 * get_or text 2 0 + 16777216 * get_or text 3 0
 
 -- where the field that starts at a place ends, by its length
-abbrev pub endFrom : ℕ → List ℕ → ℕ
-endFrom at text = at + 4 + word32 (drop at text)
+abbrev pub end_from : ℕ → List ℕ → ℕ
+end_from at text = at + 4 + word32 (drop at text)
 
 -- where field i starts, counted from 0; the end of the text where a field before it is not whole
 unfoldable pub start : ℕ → List ℕ → ℕ
 start zero text = 0
-start (suc i) text = min (endFrom (start i text) text) (length text)
+start (suc i) text = min (end_from (start i text) text) (length text)
 
 -- the bytes of field i, as far as the text goes
 unfoldable pub field : ℕ → List ℕ → List ℕ
 field i text = take (word32 (drop (start i text) text)) (drop (start i text + 4) text)
 
 -- whether field i stands whole in the text, as then every field before it does
-unfoldable pub hasField : ℕ → List ℕ → Bool
-hasField i text = leb (endFrom (start i text) text) (length text)
+unfoldable pub has_field : ℕ → List ℕ → Bool
+has_field i text = leb (end_from (start i text) text) (length text)
 
 -- whether the text has whole fields of these sizes, from field i on
-unfoldable pub sizedFrom : (i : ℕ) (sizes text : List ℕ) → Bool
-sizedFrom i [] text = true
-sizedFrom i (size ∷ sizes) text = hasField i text && eqb (length (field i text)) size && sizedFrom (suc i) sizes text
+unfoldable pub sized_from : (i : ℕ) (sizes text : List ℕ) → Bool
+sized_from i [] text = true
+sized_from i (size ∷ sizes) text = has_field i text && eqb (length (field i text)) size && sized_from (suc i) sizes text
 
 -- whether the text starts with whole fields of these sizes
-abbrev pub sized? : (sizes text : List ℕ) → Bool
-sized? sizes text = sizedFrom 0 sizes text
+abbrev pub is_sized : (sizes text : List ℕ) → Bool
+is_sized sizes text = sized_from 0 sizes text
 
 -- ---- cases: so many fields each, one case behind the other
 
 -- where the case ends that starts at a place
-abbrev pub afterCase : (fields at : ℕ) (text : List ℕ) → ℕ
-afterCase fields at text = at + start fields (drop at text)
+abbrev pub after_case : (fields at : ℕ) (text : List ℕ) → ℕ
+after_case fields at text = at + start fields (drop at text)
 
 -- where the cases start, from a place on, as far as the text goes; at most so many
-unfoldable pub placesFrom : (most fields at : ℕ) (text : List ℕ) → List ℕ
-placesFrom zero fields at text = []
-placesFrom (suc most) fields at text = cond (ltb at (length text)) (at ∷ placesFrom most fields (afterCase fields at text) text) []
+unfoldable pub places_from : (most fields at : ℕ) (text : List ℕ) → List ℕ
+places_from zero fields at text = []
+places_from (suc most) fields at text = cond (ltb at (length text)) (at ∷ places_from most fields (after_case fields at text) text) []
 
 -- where the cases of a text start; it has no more cases than bytes
 abbrev pub places : (fields : ℕ) (text : List ℕ) → List ℕ
-places fields text = placesFrom (length text) fields 0 text
+places fields text = places_from (length text) fields 0 text

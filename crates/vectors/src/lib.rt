@@ -1,8 +1,8 @@
 // What programs over files of test vectors share: the fields of a file, the verdict on a case, and reading a file whole.
 ghost use Rattle.std.specs.Prelude.{◌≡◌, ◌+◌, ◌*◌, ◌≤◌, ◌<◌, min, length, get_or, replicate};
 ghost use Rattle.lists.specs.Table.{zeros};
-ghost use Rattle.vectors.specs.Fields.{word32, endFrom, start, field, hasField, sized?, afterCase};
-ghost use Rattle.vectors.specs.Answers.{same?, verdictOf, Within, bytesRead, oneMore, counted};
+ghost use Rattle.vectors.specs.Fields.{word32, end_from, start, field, has_field, is_sized, after_case};
+ghost use Rattle.vectors.specs.Answers.{is_same, verdict_of, Within, bytes_read, one_more, counted};
 
 // ---- fields
 
@@ -27,7 +27,7 @@ fn word(text: &[u8]) -> u32
 // Where the field that starts at a place ends, by its length.
 fn end_from(text: &[u8], at: usize) -> usize
     requires { at ≤ length text.now }
-    ensures { result ≡ endFrom at text.now }
+    ensures { result ≡ end_from at text.now }
 {
     at + 4 + word(&text[at..]) as usize
 }
@@ -62,14 +62,14 @@ pub fn number(text: &[u8], i: usize) -> u32
 
 // Whether the text starts with fields 0 to i.
 pub fn has_field(text: &[u8], i: usize) -> bool
-    ensures { result ≡ hasField i text.now }
+    ensures { result ≡ has_field i text.now }
 {
     end_from(text, start(text, i)) <= text.len()
 }
 
 // Whether the text starts with whole fields of these sizes.
 pub fn has_sizes(text: &[u8], sizes: &[usize]) -> bool
-    ensures { result ≡ sized? sizes.now text.now }
+    ensures { result ≡ is_sized sizes.now text.now }
 {
     for k in 0..sizes.len() {
         if !has_field(text, k) {
@@ -85,13 +85,13 @@ pub fn has_sizes(text: &[u8], sizes: &[usize]) -> bool
 // Where the case that starts at a place ends: so many fields on.
 pub fn after_case(text: &[u8], at: usize, fields: usize) -> usize
     requires { (at < length text.now) × (0 < fields) }
-    ensures { (result ≡ afterCase fields at text.now) × (at < result) × (result ≤ length text.now) }
+    ensures { (result ≡ after_case fields at text.now) × (at < result) × (result ≤ length text.now) }
 {
     at + start(&text[at..], fields)
 }
 
 pub fn same(a: &[u8], b: &[u8]) -> bool
-    ensures { result ≡ same? a.now b.now }
+    ensures { result ≡ is_same a.now b.now }
 {
     if a.len() != b.len() {
         return false;
@@ -115,7 +115,7 @@ pub fn fill(buffer: &mut [u8], value: u8)
 }
 
 pub fn is_filled(buffer: &[u8], value: u8) -> bool
-    ensures { result ≡ same? buffer.now (replicate (length buffer.now) value) }
+    ensures { result ≡ is_same buffer.now (replicate (length buffer.now) value) }
 {
     for k in 0..buffer.len() {
         if buffer[k] != value {
@@ -137,7 +137,7 @@ pub enum Verdict {
 
 // The verdict by whether the case is whole and of its kind, and whether it agrees.
 pub fn judged(sound: bool, agrees: bool) -> Verdict
-    ensures { result ≡ verdictOf sound agrees }
+    ensures { result ≡ verdict_of sound agrees }
 {
     if sound {
         if agrees {
@@ -162,7 +162,7 @@ pub enum Report {
 
 // The largest count stays.
 pub fn one_more(count: u64) -> u64
-    ensures { result ≡ oneMore count }
+    ensures { result ≡ one_more count }
 {
     if count < 18446744073709551615 {
         count + 1
@@ -240,7 +240,7 @@ pub fn read_file(name: &[u8], buffer: &mut [u8]) -> Contents
 
 // The bytes of a file that was read into the front of a buffer; none where it was not.
 pub fn read_bytes(read: Contents, buffer: &[u8]) -> &[u8]
-    ensures { result.now ≡ bytesRead read buffer.now }
+    ensures { result.now ≡ bytes_read read buffer.now }
 {
     match read {
         Contents::Bytes(n) => &buffer[..octets::lesser(n, buffer.len())],

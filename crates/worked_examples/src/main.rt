@@ -1,7 +1,7 @@
 // Works through the worked examples of document 01 ("Lanes to try") that bear no star, and prints each with its result. Where they speak
 // of bytes, they go through the public calls. Openings are shown under two dummies: zeros, and one with all three coefficients.
 ghost use Rattle.std.specs.Prelude.{◌≡◌, length};
-ghost use Rattle.records.specs.Layout.{tripleLength};
+ghost use Rattle.records.specs.Layout.{triple_length};
 
 use answers::{Answer, Location};
 use encoding::TERNARY_LENGTH;
@@ -125,7 +125,7 @@ const E2: usize = 2 * TERNARY_LENGTH;
 // ---- openings under the key a = 0, b = 5, s = 0
 
 fn print_triple(triple: &[u8])
-    requires { length triple.now ≡ tripleLength }
+    requires { length triple.now ≡ triple_length }
 {
     print_text(b", r = ");
     print_polynomial(encoding::decode_ternary(&triple[0..TERNARY_LENGTH]));

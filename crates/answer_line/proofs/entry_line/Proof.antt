@@ -2,10 +2,10 @@ use mathlib.Core.Path.{◌≡◌, ap, ◌∙◌}
 use native.Mathlib.Omega.{arith}
 use lib.ListN.{length}
 use Rattle.lists.specs.Table.{zeros}
-use Rattle.hex.specs.Hex.{text_of}
-use Rattle.hex.proofs.Text.{length-text}
+use Rattle.hexadecimal.specs.Hex.{text_of}
+use Rattle.hexadecimal.proofs.Text.{length_text}
 use Rattle.answer_line.specs.Line.{line_of}
-use Rattle.answer_line.proofs.Lines.{written-whole, entry-fits, fits}
+use Rattle.answer_line.proofs.Lines.{written_whole, entry_fits_lem, fits}
 use borrow.Author.Rules.{rules}
 use Rattle.answer_line.proofs.entry_line.Statement.{statement}
 use Rattle.answer_line.proofs.entry_line.Tie as tie
@@ -29,9 +29,9 @@ returns : tie.Need-returns
 returns c =
     let encoded = c.before.before.before in
     let entry = encoded.before.before.before.args.t1 in
-    let size : length (text_of entry) ≡ 32 = omega (arith, length-text entry, encoded.before.before.before.well-formed) in
-    let digits = encoded.encode.ensures ∙ written-whole (text_of entry) (zeros 32) size in
-    fits (ap (line_of 0) digits) (entry-fits (text_of entry) size) c.Line-of.ensures
+    let size : length (text_of entry) ≡ 32 = omega (arith, length_text entry, encoded.before.before.before.well-formed) in
+    let digits = encoded.encode.ensures ∙ written_whole (text_of entry) (zeros 32) size in
+    fits (ap (line_of 0) digits) (entry_fits_lem (text_of entry) size) c.Line-of.ensures
 
 pub entry-line-spec : {M : Type 1} → statement M
 entry-line-spec =

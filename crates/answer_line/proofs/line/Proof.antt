@@ -1,11 +1,11 @@
 use mathlib.Core.Path.{◌≡◌, sym, ap, ◌∙◌}
 use mathlib.Core.List.{[], ◌∷◌}
 use Prim.Native.Nat.{ℕ}
-use Rattle.hex.specs.Hex.{text_of}
+use Rattle.hexadecimal.specs.Hex.{text_of}
 use Rattle.answers.specs.declared.Answer.{Answer}
 use Rattle.answers.specs.Answers.{number}
 use Rattle.answer_line.specs.Line.{shown, line_of}
-use Rattle.answer_line.proofs.Lines.{done-line, refused-line, holds}
+use Rattle.answer_line.proofs.Lines.{done_line, refused_line, holds}
 use borrow.Author.Rules.{rules}
 use Rattle.answer_line.proofs.line.Statement.{statement}
 use Rattle.answer_line.proofs.line.Tie as tie
@@ -19,7 +19,7 @@ entry-line-requires c κs = search rules
 returns : tie.Need-returns
 returns c =
     let args = c.before.before.before.args in
-    holds (done-line args.entry c.before.enum_told.given.1) c.entry-line.ensures
+    holds (done_line args.entry c.before.enum_told.given.1) c.entry-line.ensures
 
 enum-told-2 : tie.Need-enum-told-2
 enum-told-2 c = search rules
@@ -33,7 +33,7 @@ refusal-line-requires c κs = search rules
 returns-2 : tie.Need-returns-2
 returns-2 c =
     let args = c.before.before.before.before.args in
-    holds (refused-line args.entry c.before.before.enum-told2.given.1 c.before.number.ensures) c.refusal-line.ensures
+    holds (refused_line args.entry c.before.before.enum-told2.given.1 c.before.number.ensures) c.refusal-line.ensures
 
 pub line-spec : {M : Type 1} → statement M
 line-spec =

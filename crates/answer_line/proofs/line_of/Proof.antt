@@ -1,7 +1,7 @@
 use mathlib.Core.List.{[], ◌∷◌}
 use Rattle.lists.specs.Table.{zeros}
 use Rattle.text.specs.Text.{decimal}
-use Rattle.text.proofs.Texts.{put-none, put-more}
+use Rattle.text.proofs.Texts.{put_none, put_more}
 use borrow.Author.Rules.{rules}
 use Rattle.answer_line.proofs.line_of.Statement.{statement}
 use Rattle.answer_line.proofs.line_of.Tie as tie
@@ -42,10 +42,10 @@ returns c =
     let space = shown.before.before.before in
     let digits = space.before.before.before.before in
     let args = digits.before.before.before.args in
-    let number = put-more (decimal args.n) (put-none (zeros 35)) digits.put-decimal.ensures.0 digits.put-decimal.ensures.1 in
-    let apart = put-more (32 ∷ []) number space.put.ensures.0 space.put.ensures.1 in
-    let text = put-more args.shown.now apart shown.put2.ensures.0 shown.put2.ensures.1 in
-    let all = put-more (10 ∷ []) text c.before.put3.ensures.0 c.before.put3.ensures.1 in
+    let number = put_more (decimal args.n) (put_none (zeros 35)) digits.put-decimal.ensures.0 digits.put-decimal.ensures.1 in
+    let apart = put_more (32 ∷ []) number space.put.ensures.0 space.put.ensures.1 in
+    let text = put_more args.shown.now apart shown.put2.ensures.0 shown.put2.ensures.1 in
+    let all = put_more (10 ∷ []) text c.before.put3.ensures.0 c.before.put3.ensures.1 in
     (all.bytes, all.end)
 
 pub line-of-spec : {M : Type 1} → statement M

@@ -1,5 +1,5 @@
 use mathlib.Core.Path.{sym, ap, ◌∙◌}
-use Rattle.answers.specs.Locations.{inEncapsulation}
+use Rattle.answers.specs.Locations.{in_encapsulation}
 use borrow.Author.Rules.{rules}
 use Rattle.answers.proofs.in_encapsulation.Statement.{statement}
 use Rattle.answers.proofs.in_encapsulation.Tie as tie
@@ -17,10 +17,10 @@ in-encapsulation-part-requires-2 : tie.Need-in-encapsulation-part-requires-2
 in-encapsulation-part-requires-2 c κs = search rules
 
 returns : tie.Need-returns
-returns c = c.in-encapsulation-part.ensures ∙ sym (ap inEncapsulation c.before.before.c.given.1)
+returns c = c.in-encapsulation-part.ensures ∙ sym (ap in_encapsulation c.before.before.c.given.1)
 
 returns-2 : tie.Need-returns-2
-returns-2 c = c.in-encapsulation-part2.ensures ∙ sym (ap inEncapsulation c.before.before.c2.given.1)
+returns-2 c = c.in-encapsulation-part2.ensures ∙ sym (ap in_encapsulation c.before.before.c2.given.1)
 
 pub in-encapsulation-spec : {M : Type 1} → statement M
 in-encapsulation-spec =

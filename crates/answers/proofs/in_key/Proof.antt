@@ -1,5 +1,5 @@
 use mathlib.Core.Path.{sym, ap, ◌∙◌}
-use Rattle.answers.specs.Locations.{inKey}
+use Rattle.answers.specs.Locations.{in_key}
 use borrow.Author.Rules.{rules}
 use Rattle.answers.proofs.in_key.Statement.{statement}
 use Rattle.answers.proofs.in_key.Tie as tie
@@ -23,13 +23,13 @@ in-key-part-requires-3 : tie.Need-in-key-part-requires-3
 in-key-part-requires-3 c κs = search rules
 
 returns : tie.Need-returns
-returns c = c.in-key-part.ensures ∙ sym (ap inKey c.before.before.k.given.1)
+returns c = c.in-key-part.ensures ∙ sym (ap in_key c.before.before.k.given.1)
 
 returns-2 : tie.Need-returns-2
-returns-2 c = c.in-key-part2.ensures ∙ sym (ap inKey c.before.before.k2.given.1)
+returns-2 c = c.in-key-part2.ensures ∙ sym (ap in_key c.before.before.k2.given.1)
 
 returns-3 : tie.Need-returns-3
-returns-3 c = c.in-key-part3.ensures ∙ sym (ap inKey c.before.before.k3.given.1)
+returns-3 c = c.in-key-part3.ensures ∙ sym (ap in_key c.before.before.k3.given.1)
 
 pub in-key-spec : {M : Type 1} → statement M
 in-key-spec =

@@ -1,5 +1,5 @@
 use mathlib.Core.Path.{sym, ap}
-use Rattle.answers.specs.Locations.{inKeyPart}
+use Rattle.answers.specs.Locations.{in_key_part}
 use borrow.Author.Rules.{rules}
 use Rattle.answers.proofs.in_key_part.Statement.{statement}
 use Rattle.answers.proofs.in_key_part.Tie as tie
@@ -14,13 +14,13 @@ enum-known-p-3 : tie.Need-enum-known-p-3
 enum-known-p-3 c = search rules
 
 returns : tie.Need-returns
-returns c = sym (ap (inKeyPart c.before.before.before.args.kind) c.before.p.given.1)
+returns c = sym (ap (in_key_part c.before.before.before.args.kind) c.before.p.given.1)
 
 returns-2 : tie.Need-returns-2
-returns-2 c = sym (ap (inKeyPart c.before.before.before.args.kind) c.before.p2.given.1)
+returns-2 c = sym (ap (in_key_part c.before.before.before.args.kind) c.before.p2.given.1)
 
 returns-3 : tie.Need-returns-3
-returns-3 c = sym (ap (inKeyPart c.before.before.before.args.kind) c.before.p3.given.1)
+returns-3 c = sym (ap (in_key_part c.before.before.before.args.kind) c.before.p3.given.1)
 
 pub in-key-part-spec : {M : Type 1} → statement M
 in-key-part-spec = tie.close (tie.spec enum-known-p enum-known-p-2 enum-known-p-3 returns returns-2 returns-3)

@@ -7,7 +7,7 @@ use Rattle.answers.specs.contracts.Refusal as Told
 use Rattle.answers.specs.declared.Refusal.{Refusal}
 use Rattle.answers.specs.declared.Refusal.TheVariants.{WrongLength, WrongMark, WrongVersion, KeyOutOfRange, InvalidCode}
 use Rattle.answers.specs.declared.Refusal.TheVariants.{NotInvertible, KeyMismatch, StreamExhausted, DecapsulationFailure, TagMismatch, EncapsulationOutOfRange, WrongCount, InverseMismatch}
-use Rattle.answers.specs.Locations.{nowhere, refusalLocation}
+use Rattle.answers.specs.Locations.{nowhere, refusal_location}
 use borrow.Author.Rules.{rules}
 use Rattle.answers.proofs.locate_refusal.Statement.{statement}
 use Rattle.answers.proofs.locate_refusal.Tie as tie
@@ -34,7 +34,7 @@ returns-2 c = search rules
 abbrev cases : List ℕ
 cases = 0 ∷ 1 ∷ 2 ∷ 4 ∷ 5 ∷ 6 ∷ 7 ∷ 8 ∷ 9 ∷ 11 ∷ 12 ∷ []
 
-last_arm : (r : Refusal) → OneOf cases (tag_of Told.the_type r) → nowhere ≡ refusalLocation r
+last_arm : (r : Refusal) → OneOf cases (tag_of Told.the_type r) → nowhere ≡ refusal_location r
 last_arm WrongLength h = refl
 last_arm WrongMark h = refl
 last_arm WrongVersion h = refl

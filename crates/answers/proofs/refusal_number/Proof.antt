@@ -1,5 +1,5 @@
 use mathlib.Core.Path.{sym, ap}
-use Rattle.answers.specs.Answers.{refusalNumber}
+use Rattle.answers.specs.Answers.{refusal_number}
 use borrow.Author.Rules.{rules}
 use Rattle.answers.proofs.refusal_number.Statement.{statement}
 use Rattle.answers.proofs.refusal_number.Tie as tie
@@ -44,43 +44,43 @@ enum-told-13 : tie.Need-enum-told-13
 enum-told-13 c = search rules
 
 returns : tie.Need-returns
-returns c = sym (ap refusalNumber c.enum_told.given.1)
+returns c = sym (ap refusal_number c.enum_told.given.1)
 
 returns-2 : tie.Need-returns-2
-returns-2 c = sym (ap refusalNumber c.enum-told2.given.1)
+returns-2 c = sym (ap refusal_number c.enum-told2.given.1)
 
 returns-3 : tie.Need-returns-3
-returns-3 c = sym (ap refusalNumber c.enum-told3.given.1)
+returns-3 c = sym (ap refusal_number c.enum-told3.given.1)
 
 returns-4 : tie.Need-returns-4
-returns-4 c = sym (ap refusalNumber c.enum-told4.given.1)
+returns-4 c = sym (ap refusal_number c.enum-told4.given.1)
 
 returns-5 : tie.Need-returns-5
-returns-5 c = sym (ap refusalNumber c.enum-told5.given.1)
+returns-5 c = sym (ap refusal_number c.enum-told5.given.1)
 
 returns-6 : tie.Need-returns-6
-returns-6 c = sym (ap refusalNumber c.enum-told6.given.1)
+returns-6 c = sym (ap refusal_number c.enum-told6.given.1)
 
 returns-7 : tie.Need-returns-7
-returns-7 c = sym (ap refusalNumber c.enum-told7.given.1)
+returns-7 c = sym (ap refusal_number c.enum-told7.given.1)
 
 returns-8 : tie.Need-returns-8
-returns-8 c = sym (ap refusalNumber c.enum-told8.given.1)
+returns-8 c = sym (ap refusal_number c.enum-told8.given.1)
 
 returns-9 : tie.Need-returns-9
-returns-9 c = sym (ap refusalNumber c.enum-told9.given.1)
+returns-9 c = sym (ap refusal_number c.enum-told9.given.1)
 
 returns-10 : tie.Need-returns-10
-returns-10 c = sym (ap refusalNumber c.enum-told10.given.1)
+returns-10 c = sym (ap refusal_number c.enum-told10.given.1)
 
 returns-11 : tie.Need-returns-11
-returns-11 c = sym (ap refusalNumber c.enum-told11.given.1)
+returns-11 c = sym (ap refusal_number c.enum-told11.given.1)
 
 returns-12 : tie.Need-returns-12
-returns-12 c = sym (ap refusalNumber c.enum-told12.given.1)
+returns-12 c = sym (ap refusal_number c.enum-told12.given.1)
 
 returns-13 : tie.Need-returns-13
-returns-13 c = sym (ap refusalNumber c.enum-told13.given.1)
+returns-13 c = sym (ap refusal_number c.enum-told13.given.1)
 
 pub refusal-number-spec : {M : Type 1} → statement M
 refusal-number-spec =

@@ -4,7 +4,7 @@ use mathlib.Core.List.{List}
 use Prim.Native.Nat.{ℕ}
 use lib.Dec.{eqb}
 use lib.ListN.{length}
-use Rattle.batch_cases.specs.BatchCases.{kept?}
+use Rattle.batch_cases.specs.BatchCases.{is_kept}
 use borrow.Author.Rules.{rules}
 use Rattle.batch_cases.proofs.is_kept.Statement.{statement}
 use Rattle.batch_cases.proofs.is_kept.Tie as tie
@@ -19,7 +19,7 @@ is-filled-requires : tie.Need-is-filled-requires
 is-filled-requires c κs = search rules
 
 returns : tie.Need-returns
-unfolding kept?
+unfolding is_kept
 returns c =
     let none : List ℕ → Bool = λ l. eqb (length l) 0 in
     ap₂ ◌&&◌

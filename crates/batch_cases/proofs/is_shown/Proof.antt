@@ -3,9 +3,9 @@ use mathlib.Core.Bool.{◌&&◌}
 use mathlib.Core.List.{List}
 use Prim.Native.Nat.{ℕ, ◌*◌}
 use lib.Dec.{eqb}
-use Rattle.vectors.specs.Answers.{same?}
+use Rattle.vectors.specs.Answers.{is_same}
 use Rattle.case_outputs.specs.Outputs.{filled}
-use Rattle.batch_cases.specs.BatchCases.{shown?}
+use Rattle.batch_cases.specs.BatchCases.{is_shown}
 use Rattle.batch_cases.proofs.Entries.{front, behind}
 use borrow.Author.Rules.{rules}
 use Rattle.batch_cases.proofs.is_shown.Statement.{statement}
@@ -48,7 +48,7 @@ is-filled-requires : tie.Need-is-filled-requires
 is-filled-requires c κs = search rules
 
 returns : tie.Need-returns
-unfolding shown?
+unfolding is_shown
 returns c =
     let compared = c.before.before in
     let cut = compared.before.before.before in
@@ -58,8 +58,8 @@ returns c =
     ap₂ ◌&&◌
     (ap₂ ◌&&◌
     (ap₂ eqb refl cut.before.number.ensures)
-    (compared.same.ensures ∙ ap₂ same? (front size after cut.lesser.ensures) compared.before.field.ensures))
-    (c.is-filled.ensures ∙ ap (λ (l : List ℕ). same? l (filled l)) (behind size after cut.lesser.ensures))
+    (compared.same.ensures ∙ ap₂ is_same (front size after cut.lesser.ensures) compared.before.field.ensures))
+    (c.is-filled.ensures ∙ ap (λ (l : List ℕ). is_same l (filled l)) (behind size after cut.lesser.ensures))
 
 pub is-shown-spec : {M : Type 1} → statement M
 is-shown-spec =

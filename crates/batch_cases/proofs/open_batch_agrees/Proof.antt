@@ -2,9 +2,9 @@ use mathlib.Core.Path.{refl, ◌∙◌}
 use mathlib.Core.List.{List}
 use Prim.Native.Nat.{ℕ}
 use lib.ListN.{length}
-use Rattle.batch_calls.specs.Calls.{openBatchAnswer, openBatchOut, openBatchCount}
+use Rattle.batch_calls.specs.Calls.{open_batch_answer, open_batch_out, open_batch_count}
 use Rattle.lists.proofs.Equal.{ap₄}
-use Rattle.batch_cases.specs.BatchCases.{openedAgrees?, openBatchAfter, openBatchAgrees?}
+use Rattle.batch_cases.specs.BatchCases.{opened_agrees, open_batch_after, open_batch_agrees}
 use borrow.Author.Rules.{rules}
 use Rattle.batch_cases.proofs.open_batch_agrees.Statement.{statement}
 use Rattle.batch_cases.proofs.open_batch_agrees.Tie as tie
@@ -31,7 +31,7 @@ same_length : tie.Need-same-length
 same_length c = search rules
 
 returns : tie.Need-returns
-unfolding openBatchAgrees? openBatchAfter
+unfolding open_batch_agrees open_batch_after
 returns c =
     let ran = c.before.before.before.before in
     let inputs = ran.before.before in
@@ -40,10 +40,10 @@ returns c =
     let z = inputs.field3.ensures in
     let out = inputs.before.before.before.before.before.fill.ensures in
     let did = ran.open-batch.ensures in
-    let answer-is = did.0 ∙ ap₄ (λ (x y z out : List ℕ). openBatchAnswer x y z (length out)) x y z out in
-    let count-is = did.1.0 ∙ ap₄ (λ (x y z out : List ℕ). openBatchCount x y z (length out) 0) x y z out in
-    let out-is = did.1.1.0 ∙ ap₄ openBatchOut x y z out in
-    (c.opened-agrees.ensures ∙ ap₄ openedAgrees? refl answer-is count-is out-is, out-is)
+    let answer-is = did.0 ∙ ap₄ (λ (x y z out : List ℕ). open_batch_answer x y z (length out)) x y z out in
+    let count-is = did.1.0 ∙ ap₄ (λ (x y z out : List ℕ). open_batch_count x y z (length out) 0) x y z out in
+    let out-is = did.1.1.0 ∙ ap₄ open_batch_out x y z out in
+    (c.opened-agrees.ensures ∙ ap₄ opened_agrees refl answer-is count-is out-is, out-is)
 
 pub open-batch-agrees-spec : {M : Type 1} → statement M
 open-batch-agrees-spec =

@@ -1,6 +1,6 @@
 use mathlib.Core.Path.{ap, ◌∙◌}
 use Rattle.case_outputs.proofs.Outputs.{filled-output}
-use Rattle.batch_cases.specs.BatchCases.{openBatchAgrees?}
+use Rattle.batch_cases.specs.BatchCases.{open_batch_agrees}
 use borrow.Author.Rules.{rules}
 use Rattle.batch_cases.proofs.open_batch_case_agrees.Statement.{statement}
 use Rattle.batch_cases.proofs.open_batch_case_agrees.Tie as tie
@@ -28,7 +28,7 @@ returns c =
     let sized = c.before.before.before in
     let text = sized.before.before.before.args.text.now in
     c.before.open-batch-agrees.ensures.0
-    ∙ ap (openBatchAgrees? text) (filled-output 3 text sized.room.ensures.0 sized.before.output-buffer.ensures)
+    ∙ ap (open_batch_agrees text) (filled-output 3 text sized.room.ensures.0 sized.before.output-buffer.ensures)
 
 pub open-batch-case-agrees-spec : {M : Type 1} → statement M
 open-batch-case-agrees-spec =

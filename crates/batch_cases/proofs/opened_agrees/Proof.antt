@@ -1,8 +1,8 @@
 use mathlib.Core.Path.{refl, ap₂, ◌∙◌}
 use mathlib.Core.Bool.{◌&&◌}
-use Rattle.case_outputs.specs.Outputs.{answerTold?}
+use Rattle.case_outputs.specs.Outputs.{answer_told}
 use Rattle.lists.proofs.Equal.{ap₃}
-use Rattle.batch_cases.specs.BatchCases.{openedAgrees?}
+use Rattle.batch_cases.specs.BatchCases.{opened_agrees}
 use borrow.Author.Rules.{rules}
 use Rattle.batch_cases.proofs.opened_agrees.Statement.{statement}
 use Rattle.batch_cases.proofs.opened_agrees.Tie as tie
@@ -20,11 +20,11 @@ entries-agree-requires : tie.Need-entries-agree-requires
 entries-agree-requires c κs = search rules
 
 returns : tie.Need-returns
-unfolding openedAgrees?
+unfolding opened_agrees
 returns c =
     let words = c.before.before in
     ap₂ ◌&&◌
-    (c.before.is-told.ensures ∙ ap₃ answerTold? refl words.before.number.ensures words.field.ensures)
+    (c.before.is-told.ensures ∙ ap₃ answer_told refl words.before.number.ensures words.field.ensures)
     c.entries-agree.ensures
 
 pub opened-agrees-spec : {M : Type 1} → statement M

@@ -3,8 +3,8 @@ use lib.ListN.{length}
 use borrow.Author.Tests.{not-true, not-false}
 use Rattle.answers.specs.Answers.{number}
 use Rattle.batch_calls.proofs.Lengths.{opening-fits}
-use Rattle.batch_calls.proofs.Promised.{open-batch-promise}
-use Rattle.batch_opening.proofs.Laws.{lengths-refused, checks-decide, count_by, out-by}
+use Rattle.batch_calls.proofs.Promised.{open-batch_promise}
+use Rattle.batch_opening.proofs.Laws.{lengths_refused, checks_decide, count_by, out_by}
 use borrow.Author.Rules.{rules}
 use Rattle.batch_opening.proofs.open_batch.Statement.{statement}
 use Rattle.batch_opening.proofs.open_batch.Tie as tie
@@ -16,10 +16,10 @@ returns c =
     let batch = args.batch.now in
     let noise = args.noise.now in
     let old = args.out.now in
-    let answer = lengths-refused k batch noise (length old) (not-true _ c.if1.true) in
+    let answer = lengths_refused k batch noise (length old) (not-true _ c.if1.true) in
     let count = count_by k batch noise (length old) 0 answer in
-    let kept = out-by k batch noise old answer in
-    (answer, (count, (kept, open-batch-promise k batch noise old 0 (ap number answer) kept count)))
+    let kept = out_by k batch noise old answer in
+    (answer, (count, (kept, open-batch_promise k batch noise old 0 (ap number answer) kept count)))
 
 open-records-requires : tie.Need-open-records-requires
 open-records-requires c κs =
@@ -41,12 +41,12 @@ returns-2 c =
     let batch = args.batch.now in
     let noise = args.noise.now in
     let old = args.out.now in
-    let same = checks-decide k batch noise (length old) (not-false _ left.if1.false) in
+    let same = checks_decide k batch noise (length old) (not-false _ left.if1.false) in
     let (checked, (counted, written)) = opened.open-records.ensures in
     let answer = checked ∙ same in
     let count = counted ∙ count_by k batch noise (length old) 0 same in
-    let out = written ∙ out-by k batch noise old same in
-    (answer, (count, (out, open-batch-promise k batch noise old 0 (ap number answer) out count)))
+    let out = written ∙ out_by k batch noise old same in
+    (answer, (count, (out, open-batch_promise k batch noise old 0 (ap number answer) out count)))
 
 pub open-batch-spec : {M : Type 1} → statement M
 open-batch-spec = tie.close (tie.spec returns open-records-requires same_length returns-2)

@@ -5,15 +5,15 @@ use native.Mathlib.Omega.{arith}
 use lib.ListN.{length, take, drop}
 use Rattle.lists.proofs.Equal.{ap₃}
 use Rattle.answers.specs.declared.Answer.{Answer}
-use Rattle.answers.specs.Answers.{onDone}
-use Rattle.batch_records.specs.Batches.{countBlock}
-use Rattle.batch_records.specs.Read.{countAnswer, bodyLength}
-use Rattle.sealed_records.specs.Front.{sealedFrontAnswer}
-use Rattle.secret_keys.specs.SecretKeys.{secretAnswer}
-use Rattle.calls.specs.Calls.{openedEntry}
-use Rattle.batch_calls.specs.Calls.{batchOutcome}
-use Rattle.recovery.specs.Outcomes.{openedBy}
-use Rattle.batch_opening.proofs.Laws.{version-is, opened-batch}
+use Rattle.answers.specs.Answers.{on_done}
+use Rattle.batch_records.specs.Batches.{count_block}
+use Rattle.batch_records.specs.Read.{count_answer, body_length}
+use Rattle.sealed_records.specs.Front.{sealed_front_answer}
+use Rattle.secret_keys.specs.SecretKeys.{secret_answer}
+use Rattle.calls.specs.Calls.{opened_entry}
+use Rattle.batch_calls.specs.Calls.{batch_outcome}
+use Rattle.recovery.specs.Outcomes.{opened_by}
+use Rattle.batch_opening.proofs.Laws.{version_is, opened-batch}
 use borrow.Author.Rules.{rules}
 use Rattle.batch_opening.proofs.open_records.Statement.{statement}
 use Rattle.batch_opening.proofs.open_records.Tie as tie
@@ -98,21 +98,21 @@ returns c =
     let old = args.out.now in
     let s = size.body-length.result in
     let m = counted.count.ensures.0 in
-    let es = size.body-length.ensures.0 ∙ ap (λ (x : ℕ). bodyLength x (length batch)) m in
+    let es = size.body-length.ensures.0 ∙ ap (λ (x : ℕ). body_length x (length batch)) m in
     let (says, (_, shows)) = opened.open-sealed.ensures in
     let whole : 4103 + s - 4103 ≡ s = omega arith in
     let long : 4119 + s - (4103 + s) ≡ 16 = omega arith in
     let none : s - 0 ≡ s = omega arith in
     let body = ap (λ (n : ℕ). take n (drop 4103 batch)) whole in
-    let blocks = ap₂ ◌++◌ (l.count-block.ensures ∙ ap countBlock m) body in
+    let blocks = ap₂ ◌++◌ (l.count_block_lem.ensures ∙ ap count_block m) body in
     let tag = ap (λ (n : ℕ). take n (drop (4103 + s) batch)) long in
-    let front = between.count-answer.ensures ∙ ap (λ (x : ℕ). countAnswer x (length batch)) m in
-    let o = batchOutcome k batch noise in
+    let front = between.count-answer.ensures ∙ ap (λ (x : ℕ). count_answer x (length batch)) m in
+    let o = batch_outcome k batch noise in
     let (answer, shown) =
     opened-batch k batch noise old es
-    (version-is k batch noise _ _ _ _ says refl ∙ ap₃ (λ (w : Answer) (x y : List ℕ). openedBy (secretAnswer k) (sealedFrontAnswer 2 w batch) o x y) front blocks tag)
-    none (shows ∙ ap (λ (x : List ℕ). onDone opened.open-sealed.result.answer (openedEntry o x) (take (s - 0) old)) body) in
-    (answer, (c.shown.ensures ∙ ap₂ (λ (a : Answer) (x : ℕ). onDone a x 0) answer m, shown))
+    (version_is k batch noise _ _ _ _ says refl ∙ ap₃ (λ (w : Answer) (x y : List ℕ). opened_by (secret_answer k) (sealed_front_answer 2 w batch) o x y) front blocks tag)
+    none (shows ∙ ap (λ (x : List ℕ). on_done opened.open-sealed.result.answer (opened_entry o x) (take (s - 0) old)) body) in
+    (answer, (c.shown.ensures ∙ ap₂ (λ (a : Answer) (x : ℕ). on_done a x 0) answer m, shown))
 
 pub open-records-spec : {M : Type 1} → statement M
 open-records-spec =

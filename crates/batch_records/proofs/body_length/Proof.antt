@@ -2,7 +2,7 @@ use mathlib.Core.Path.{sym, ap, ◌∙◌}
 use mathlib.Core.Bool.{Bool, ◌&&◌, cond}
 use Prim.Native.Nat.{◌*◌}
 use lib.Dec.{eqb}
-use Rattle.batch_records.specs.Batches.{batchLength}
+use Rattle.batch_records.specs.Batches.{batch_length}
 use Rattle.batch_records.proofs.Laws.{body-within}
 use borrow.Author.Rules.{rules}
 use Rattle.batch_records.proofs.body_length.Statement.{statement}
@@ -23,14 +23,14 @@ mul-result c = search rules
 returns : tie.Need-returns
 returns c =
     let args = c.before.before.args in
-    let test = ap (λ (b : Bool). b && eqb args.size (batchLength args.m)) (sym c.before.is-count.ensures) ∙ c.if1.true in
+    let test = ap (λ (b : Bool). b && eqb args.size (batch_length args.m)) (sym c.before.is-count.ensures) ∙ c.if1.true in
     let is = sym (ap (λ (b : Bool). cond b (16 * args.m) 0) test) in
     (is, rw is (body-within args.m args.size c.before.before.requires.1))
 
 returns-2 : tie.Need-returns-2
 returns-2 c =
     let args = c.before.before.args in
-    let test = ap (λ (b : Bool). b && eqb args.size (batchLength args.m)) (sym c.before.is-count.ensures) ∙ c.if1.false in
+    let test = ap (λ (b : Bool). b && eqb args.size (batch_length args.m)) (sym c.before.is-count.ensures) ∙ c.if1.false in
     let is = sym (ap (λ (b : Bool). cond b (16 * args.m) 0) test) in
     (is, search rules)
 

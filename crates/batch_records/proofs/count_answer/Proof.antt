@@ -3,8 +3,8 @@ use mathlib.Core.Bool.{Bool}
 use lib.Dec.{eqb}
 use Rattle.answers.specs.declared.Refusal.TheVariants.{WrongLength, WrongCount}
 use Rattle.answers.specs.declared.Answer.TheVariants.{Done}
-use Rattle.answers.specs.Answers.{unless, andThen}
-use Rattle.batch_records.specs.Batches.{batchLength, count?}
+use Rattle.answers.specs.Answers.{unless, and_then}
+use Rattle.batch_records.specs.Batches.{batch_length, is_count}
 use Rattle.answers.proofs.AnswerLaws.{unless-then}
 use borrow.Author.Rules.{rules}
 use Rattle.batch_records.proofs.count_answer.Statement.{statement}
@@ -33,8 +33,8 @@ returns c =
     let counted = c.before.before in
     let args = counted.before.before.args in
     let first = counted.unless.ensures ∙ ap (λ (b : Bool). unless b WrongCount Done) counted.before.is-count.ensures in
-    let fits = eqb args.size (batchLength args.m) in
-    c.and_then.ensures ∙ ap₂ andThen first c.before.unless2.ensures ∙ unless-then (count? args.m) WrongCount (unless fits WrongLength Done)
+    let fits = eqb args.size (batch_length args.m) in
+    c.and_then.ensures ∙ ap₂ and_then first c.before.unless2.ensures ∙ unless-then (is_count args.m) WrongCount (unless fits WrongLength Done)
 
 pub count-answer-spec : {M : Type 1} → statement M
 count-answer-spec =

@@ -1,4 +1,4 @@
-use Rattle.batch_records.specs.Batches.{countBlock}
+use Rattle.batch_records.specs.Batches.{count_block}
 use mathlib.Core.Path.{refl}
 use borrow.Author.Rules.{rules}
 use Rattle.batch_records.proofs.count_block.Statement.{statement}
@@ -17,7 +17,7 @@ array-write-l-2 : tie.Need-array-write-l-2
 array-write-l-2 c = search rules
 
 returns : tie.Need-returns
-unfolding countBlock
+unfolding count_block
 returns c = refl
 
 pub count-block-spec : {M : Type 1} → statement M

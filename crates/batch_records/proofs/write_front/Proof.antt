@@ -1,9 +1,9 @@
 use mathlib.Core.Path.{refl}
 use lib.ListN.{take}
 use Rattle.encoding.proofs.Buffers.{put-plain}
-use Rattle.records.specs.Layout.{sealedEntryMark, thirdPlace}
-use Rattle.records.specs.Records.{recordBytes}
-use Rattle.records.proofs.Writing.{length-recordBytes}
+use Rattle.records.specs.Layout.{sealed_entry_mark, third_place}
+use Rattle.records.specs.Records.{record_bytes}
+use Rattle.records.proofs.Writing.{length-record_bytes}
 use borrow.Author.Rules.{rules}
 use Rattle.batch_records.proofs.write_front.Statement.{statement}
 use Rattle.batch_records.proofs.write_front.Tie as tie
@@ -39,9 +39,9 @@ returns : tie.Need-returns
 returns c =
     let first = c.before.before.before.before.before.before.before.before in
     let args = first.before.before.before.args in
-    let front = recordBytes sealedEntryMark 2 args.c1 args.c2 in
-    put-plain front (take 2 args.t3) args.out.now _ thirdPlace 2 first.write-record.ensures
-    (length-recordBytes sealedEntryMark 2 args.c1 args.c2) refl c.before.before.copy.ensures
+    let front = record_bytes sealed_entry_mark 2 args.c1 args.c2 in
+    put-plain front (take 2 args.t3) args.out.now _ third_place 2 first.write-record.ensures
+    (length-record_bytes sealed_entry_mark 2 args.c1 args.c2) refl c.before.before.copy.ensures
 
 pub write-front-spec : {M : Type 1} → statement M
 write-front-spec =

@@ -2,7 +2,7 @@ use mathlib.Core.Path.{sym, ◌∙◌}
 use lib.ListN.{length}
 use borrow.Author.Tests.{not-true, not-false, ne_eqb}
 use Rattle.batch_calls.proofs.Lengths.{sealing-fits}
-use Rattle.batch_sealing.proofs.Laws.{fits_by, entries-refused, count-refused, lengths-refused, key-decides, written, kept}
+use Rattle.batch_sealing.proofs.Laws.{fits_by, entries_refused, count_refused, lengths_refused, key_decides, written, kept}
 use borrow.Author.Rules.{rules}
 use Rattle.batch_sealing.proofs.seal_batch.Statement.{statement}
 use Rattle.batch_sealing.proofs.seal_batch.Tie as tie
@@ -10,7 +10,7 @@ use Rattle.batch_sealing.proofs.seal_batch.Tie as tie
 returns : tie.Need-returns
 returns c =
     let args = c.before.before.before.before.before.args in
-    let answer = entries-refused args.key.now args.noise.now args.blocks.now (length args.out.now) (ne_eqb _ _ c.if1.true) in
+    let answer = entries_refused args.key.now args.noise.now args.blocks.now (length args.out.now) (ne_eqb _ _ c.if1.true) in
     (answer, kept args.key.now args.noise.now args.blocks.now args.out.now answer)
 
 is-count-requires : tie.Need-is-count-requires
@@ -22,7 +22,7 @@ returns-2 c =
     let args = whole.before.before.before.before.before.args in
     let count = sym c.before.is-count.ensures ∙ not-true _ c.if2.true in
     let answer =
-    count-refused args.key.now args.noise.now args.blocks.now (length args.out.now) whole.if1.false count in
+    count_refused args.key.now args.noise.now args.blocks.now (length args.out.now) whole.if1.false count in
     (answer, kept args.key.now args.noise.now args.blocks.now args.out.now answer)
 
 is-public-length-requires : tie.Need-is-public-length-requires
@@ -43,7 +43,7 @@ returns-3 c =
     let misfit =
     fits_by args.key.now args.noise.now args.blocks.now (length args.out.now) c.before.is-public-length.ensures (not-true _ c.if3.true) in
     let answer =
-    lengths-refused args.key.now args.noise.now args.blocks.now (length args.out.now) whole.if1.false count misfit in
+    lengths_refused args.key.now args.noise.now args.blocks.now (length args.out.now) whole.if1.false count misfit in
     (answer, kept args.key.now args.noise.now args.blocks.now args.out.now answer)
 
 encapsulate-noise-requires : tie.Need-encapsulate-noise-requires
@@ -79,7 +79,7 @@ returns-4 c =
     fits_by args.key.now args.noise.now args.blocks.now (length args.out.now) left.before.is-public-length.ensures (not-false _ left.if3.false) in
     let (checked, (triple, (c1, c2))) = made.encapsulate-noise.ensures in
     let answer =
-    checked ∙ key-decides args.key.now args.noise.now args.blocks.now (length args.out.now) whole.if1.false count fits in
+    checked ∙ key_decides args.key.now args.noise.now args.blocks.now (length args.out.now) whole.if1.false count fits in
     (answer, c.before.before.write-sealed.ensures ∙ written args.key.now args.noise.now args.blocks.now args.out.now answer triple c1 c2)
 
 pub seal-batch-spec : {M : Type 1} → statement M

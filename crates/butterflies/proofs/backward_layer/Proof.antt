@@ -5,22 +5,22 @@ use native.Mathlib.Nat.{le_of_lt}
 use native.Mathlib.Omega.{arith}
 use lib.ListN.{length-set, length, get_or}
 use Rattle.lists.specs.Table.{table}
-use Rattle.lists.proofs.Fill.{FilledHalves, filled-halves-none, filled-halves-more, filled-halves-all}
-use Rattle.lists.proofs.Tables.{length-table, getD-table}
-use Rattle.algebra.specs.Numbers.{mulMod}
+use Rattle.lists.proofs.Fill.{FilledHalves, filled-halves_none, filled-halves_more, filled-halves_all}
+use Rattle.lists.proofs.Tables.{length-table, get_or-table}
+use Rattle.algebra.specs.Numbers.{mul_mod}
 use Rattle.algebra.proofs.Numbers.{below_at}
-use Rattle.modq.specs.Montgomery.{montgomeryForm}
+use Rattle.modq.specs.Montgomery.{montgomery_form}
 use Rattle.modq.proofs.Prime.{q-positive}
 use Rattle.twiddles.specs.Powers.{q}
-use Rattle.twiddles.specs.Factors.{backwardFactor}
-use Rattle.twiddles.proofs.Factors.{backward-at, length-backwardFactors, by-power}
-use Rattle.butterflies.proofs.Layers.{lows, highs, unzippedLayer-is, halves-size}
+use Rattle.twiddles.specs.Factors.{backward_factor}
+use Rattle.twiddles.proofs.Factors.{backward-at, length-backward_factors, by-power}
+use Rattle.butterflies.proofs.Layers.{lows, highs, unzipped_layer_is, halves-size}
 use borrow.Author.Rules.{rules}
 use Rattle.butterflies.proofs.backward_layer.Statement.{statement}
 use Rattle.butterflies.proofs.backward_layer.Tie as tie
 
 abbrev invariant-loop : tie.invariant-loop
-invariant-loop r₀ p w k j₀ r j = FilledHalves 512 (table 512 (lows q 512 (backwardFactor k) p)) (table 512 (highs q 512 (backwardFactor k) p)) r j
+invariant-loop r₀ p w k j₀ r j = FilledHalves 512 (table 512 (lows q 512 (backward_factor k) p)) (table 512 (highs q 512 (backward_factor k) p)) r j
 
 abbrev decreases-loop : tie.decreases-loop
 decreases-loop r₀ p w k j₀ r j = 512 - j
@@ -28,7 +28,7 @@ decreases-loop r₀ p w k j₀ r j = 512 - j
 -- the factor that is read
 factor : (c : tie.In-loop invariant-loop decreases-loop)
     → get_or c.before.before.before.before.before.args.w.now (512 * c.before.before.before.before.before.args.k + c.before.loop.j) 0
-    ≡ montgomeryForm (backwardFactor c.before.before.before.before.before.args.k c.before.loop.j)
+    ≡ montgomery_form (backward_factor c.before.before.before.before.before.args.k c.before.loop.j)
 factor c =
     let start = c.before.before.before.before.before in
     ap (λ (l : List ℕ). get_or l (512 * start.args.k + c.before.loop.j) 0) start.requires.1
@@ -41,7 +41,7 @@ entry c i =
     below_at q q-positive start.args.p.now start.requires.0.2 i
 
 loop-holds : tie.Need-loop-init invariant-loop decreases-loop
-loop-holds c = filled-halves-none 512 _ _ _ (length-table 512 _) (length-table 512 _) c.before.before.before.requires.0.0
+loop-holds c = filled-halves_none 512 _ _ _ (length-table 512 _) (length-table 512 _) c.before.before.before.requires.0.0
 
 mul-x : tie.Need-overflow-mul-x invariant-loop decreases-loop
 mul-x c = search rules
@@ -83,7 +83,7 @@ shared-slice-read-montgomery-product :
     tie.Need-shared-slice-read-montgomery-product invariant-loop decreases-loop
 shared-slice-read-montgomery-product c =
     let start = c.before.before.before.before.before.before.before.before.before.before in
-    omega (arith, ap length start.requires.1 ∙ length-backwardFactors, start.requires.0.3)
+    omega (arith, ap length start.requires.1 ∙ length-backward_factors, start.requires.0.3)
 
 montgomery-product-requires : tie.Need-montgomery-product-requires invariant-loop decreases-loop
 montgomery-product-requires c κs = omega (arith, factor c.before.before.before.before.before)
@@ -109,16 +109,16 @@ loop-again c =
     let at = inside.before in
     let k = at.before.before.before.before.args.k in
     let j = at.loop.j in
-    filled-halves-more 0 at.loop.invariant (search rules)
-    (c.before.before.add-reduced.ensures ∙ sym (getD-table 512 _ j 0 (search rules)))
+    filled-halves_more 0 at.loop.invariant (search rules)
+    (c.before.before.add-reduced.ensures ∙ sym (get_or-table 512 _ j 0 (search rules)))
     (c.montgomery-product.ensures ∙ by-power _ _ _ (factor inside)
-    ∙ ap (mulMod q (backwardFactor k j)) c.before.before.before.sub-reduced.ensures ∙ sym (getD-table 512 _ j 0 (search rules)))
+    ∙ ap (mul_mod q (backward_factor k j)) c.before.before.before.sub-reduced.ensures ∙ sym (get_or-table 512 _ j 0 (search rules)))
 
 same_length : tie.Need-same-length invariant-loop decreases-loop
 same_length c = halves-size c.before.loop.invariant ∙ sym c.before.before.before.before.before.requires.0.0
 
 returns : tie.Need-returns invariant-loop decreases-loop
-returns c = filled-halves-all c.before.loop.invariant (search rules) ∙ sym (unzippedLayer-is q 512 _ _)
+returns c = filled-halves_all c.before.loop.invariant (search rules) ∙ sym (unzipped_layer_is q 512 _ _)
 
 pub backward-layer-spec : {M : Type 1} → statement M
 backward-layer-spec =

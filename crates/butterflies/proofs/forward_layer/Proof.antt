@@ -4,21 +4,21 @@ use Prim.Native.Nat.{ℕ, ◌+◌, ◌-◌, ◌*◌, ◌<◌}
 use native.Mathlib.Omega.{arith}
 use lib.ListN.{length-set, length, get_or}
 use Rattle.lists.proofs.Fill.{Filled, filled_none, filled_more, filled-all}
-use Rattle.algebra.specs.Numbers.{addMod, subMod, mulMod}
+use Rattle.algebra.specs.Numbers.{add_mod, sub_mod, mul_mod}
 use Rattle.algebra.proofs.Numbers.{below_at}
-use Rattle.modq.specs.Montgomery.{montgomeryForm}
+use Rattle.modq.specs.Montgomery.{montgomery_form}
 use Rattle.modq.proofs.Prime.{q-positive}
 use Rattle.twiddles.specs.Powers.{q}
-use Rattle.twiddles.specs.Factors.{forwardFactor}
-use Rattle.butterflies.specs.Layers.{forwardLayer}
-use Rattle.twiddles.proofs.Factors.{forward-at, length-forwardFactors, by-power}
-use Rattle.butterflies.proofs.Layers.{length-forward, forward-even, forward-odd}
+use Rattle.twiddles.specs.Factors.{forward_factor}
+use Rattle.butterflies.specs.Layers.{forward_layer}
+use Rattle.twiddles.proofs.Factors.{forward-at, length-forward_factors, by-power}
+use Rattle.butterflies.proofs.Layers.{length-forward, forward_even, forward_odd}
 use borrow.Author.Rules.{rules}
 use Rattle.butterflies.proofs.forward_layer.Statement.{statement}
 use Rattle.butterflies.proofs.forward_layer.Tie as tie
 
 abbrev invariant-loop : tie.invariant-loop
-invariant-loop r₀ a w k j₀ r j = Filled 1024 (forwardLayer q 512 (forwardFactor k) a) r (2 * j)
+invariant-loop r₀ a w k j₀ r j = Filled 1024 (forward_layer q 512 (forward_factor k) a) r (2 * j)
 
 abbrev decreases-loop : tie.decreases-loop
 decreases-loop r₀ a w k j₀ r j = 512 - j
@@ -26,7 +26,7 @@ decreases-loop r₀ a w k j₀ r j = 512 - j
 -- the factor that is read
 factor : (c : tie.In-loop invariant-loop decreases-loop)
     → get_or c.before.before.before.before.before.args.w.now (512 * c.before.before.before.before.before.args.k + c.before.loop.j) 0
-    ≡ montgomeryForm (forwardFactor c.before.before.before.before.before.args.k c.before.loop.j)
+    ≡ montgomery_form (forward_factor c.before.before.before.before.before.args.k c.before.loop.j)
 factor c =
     let start = c.before.before.before.before.before in
     ap (λ (l : List ℕ). get_or l (512 * start.args.k + c.before.loop.j) 0) start.requires.1
@@ -60,7 +60,7 @@ shared-slice-read-montgomery-product :
     tie.Need-shared-slice-read-montgomery-product invariant-loop decreases-loop
 shared-slice-read-montgomery-product c =
     let start = c.before.before.before.before.before.before.before in
-    omega (arith, ap length start.requires.1 ∙ length-forwardFactors, start.requires.0.3)
+    omega (arith, ap length start.requires.1 ∙ length-forward_factors, start.requires.0.3)
 
 add-montgomery-product-2 : tie.Need-overflow-add-montgomery-product-2 invariant-loop decreases-loop
 add-montgomery-product-2 c = search rules
@@ -121,8 +121,8 @@ loop-again c =
     subst (Filled 1024 _ _) next
     (filled_more 0
     (filled_more 0 at.loop.invariant (search rules)
-    (c.before.add-reduced.ensures ∙ ap (addMod q (get_or a j 0)) times ∙ sym (forward-even q 512 (forwardFactor k) a j (search rules))))
-    (search rules) (c.sub-reduced.ensures ∙ ap (subMod q (get_or a j 0)) times ∙ sym (forward-odd q 512 (forwardFactor k) a j (search rules))))
+    (c.before.add-reduced.ensures ∙ ap (add_mod q (get_or a j 0)) times ∙ sym (forward_even q 512 (forward_factor k) a j (search rules))))
+    (search rules) (c.sub-reduced.ensures ∙ ap (sub_mod q (get_or a j 0)) times ∙ sym (forward_odd q 512 (forward_factor k) a j (search rules))))
 
 same_length : tie.Need-same-length invariant-loop decreases-loop
 same_length c = c.before.loop.invariant.size ∙ sym c.before.before.before.before.before.requires.0.0

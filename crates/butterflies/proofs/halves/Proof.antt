@@ -3,21 +3,21 @@ use Prim.Native.Nat.{◌-◌}
 use native.Mathlib.Omega.{arith}
 use lib.ListN.{length-set, length}
 use Rattle.lists.specs.Table.{table}
-use Rattle.lists.proofs.Tables.{length-table, getD-table}
-use Rattle.lists.proofs.Fill.{FilledHalves, filled-halves-none, filled-halves-more, filled-halves-all}
-use Rattle.butterflies.proofs.Layers.{lowHalves, highHalves, halves-is, halves-size}
+use Rattle.lists.proofs.Tables.{length-table, get_or-table}
+use Rattle.lists.proofs.Fill.{FilledHalves, filled-halves_none, filled-halves_more, filled-halves_all}
+use Rattle.butterflies.proofs.Layers.{low_halves, high_halves, halves_is, halves-size}
 use borrow.Author.Rules.{rules}
 use Rattle.butterflies.proofs.halves.Statement.{statement}
 use Rattle.butterflies.proofs.halves.Tie as tie
 
 abbrev invariant-loop : tie.invariant-loop
-invariant-loop p₀ v j₀ p j = FilledHalves 512 (table 512 (lowHalves 512 v)) (table 512 (highHalves 512 v)) p j
+invariant-loop p₀ v j₀ p j = FilledHalves 512 (table 512 (low_halves 512 v)) (table 512 (high_halves 512 v)) p j
 
 abbrev decreases-loop : tie.decreases-loop
 decreases-loop p₀ v j₀ p j = 512 - j
 
 loop-holds : tie.Need-loop-init invariant-loop decreases-loop
-loop-holds c = filled-halves-none 512 _ _ _ (length-table 512 _) (length-table 512 _) c.requires.0
+loop-holds c = filled-halves_none 512 _ _ _ (length-table 512 _) (length-table 512 _) c.requires.0
 
 mul-p : tie.Need-overflow-mul-p invariant-loop decreases-loop
 mul-p c = search rules
@@ -62,13 +62,13 @@ loop-again : tie.Need-loop-preserved invariant-loop decreases-loop
 loop-again c =
     let at = c.before.before.before in
     let j = at.loop.j in
-    filled-halves-more 0 at.loop.invariant (search rules) (sym (getD-table 512 _ j 0 (search rules))) (sym (getD-table 512 _ j 0 (search rules)))
+    filled-halves_more 0 at.loop.invariant (search rules) (sym (get_or-table 512 _ j 0 (search rules))) (sym (get_or-table 512 _ j 0 (search rules)))
 
 same_length : tie.Need-same-length invariant-loop decreases-loop
 same_length c = halves-size c.before.loop.invariant ∙ sym c.before.before.requires.0
 
 returns : tie.Need-returns invariant-loop decreases-loop
-returns c = filled-halves-all c.before.loop.invariant (search rules) ∙ sym (halves-is 512 _)
+returns c = filled-halves_all c.before.loop.invariant (search rules) ∙ sym (halves_is 512 _)
 
 pub halves-spec : {M : Type 1} → statement M
 halves-spec =

@@ -3,8 +3,8 @@ use mathlib.Core.List.{List}
 use Prim.Native.Nat.{ℕ, ◌+◌}
 use lib.ListN.{length}
 use Rattle.vectors.specs.Fields.{word32, field}
-use Rattle.case_outputs.specs.Outputs.{answerAgrees?}
-use Rattle.call_cases.specs.CallCases.{callAnswer, callOut, outAfter, callAgrees?}
+use Rattle.case_outputs.specs.Outputs.{answer_agrees}
+use Rattle.call_cases.specs.CallCases.{call_answer, call_out, out_after, call_agrees}
 use Rattle.lists.proofs.Equal.{ap₄, ap₅}
 use borrow.Author.Rules.{rules}
 use Rattle.call_cases.proofs.call_agrees.Statement.{statement}
@@ -53,7 +53,7 @@ same_length : tie.Need-same-length
 same_length c = search rules
 
 returns : tie.Need-returns
-unfolding callAgrees? outAfter
+unfolding call_agrees out_after
 returns c =
     let words = c.before.before.before in
     let told = words.before in
@@ -66,10 +66,10 @@ returns c =
     let y = inputs.before.field2.ensures in
     let z = inputs.field3.ensures in
     let out = filled.fill.ensures in
-    let out-is = ran.run.ensures.1 ∙ ap₄ (callOut args.call) x y z out in (
+    let out-is = ran.run.ensures.1 ∙ ap₄ (call_out args.call) x y z out in (
       c.answer-agrees.ensures
-          ∙ ap₅ answerAgrees?
-          (ran.run.ensures.0 ∙ ap₄ (λ (x y z out : List ℕ). callAnswer args.call x y z (length out)) x y z out)
+          ∙ ap₅ answer_agrees
+          (ran.run.ensures.0 ∙ ap₄ (λ (x y z out : List ℕ). call_answer args.call x y z (length out)) x y z out)
           (told.number.ensures ∙ ap (λ (k : ℕ). word32 (field (k + 1) args.text.now)) place.size-field.ensures.0)
           (words.field4.ensures ∙ ap (λ (k : ℕ). field (k + 2) args.text.now) place.size-field.ensures.0)
           (c.before.before.field5.ensures ∙ ap (λ (k : ℕ). field (k + 3) args.text.now) place.size-field.ensures.0)

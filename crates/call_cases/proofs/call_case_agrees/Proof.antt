@@ -1,7 +1,7 @@
 use mathlib.Core.Path.{ap, ◌∙◌}
 use Prim.Native.Nat.{ℕ}
 use Rattle.case_outputs.specs.Outputs.{room}
-use Rattle.call_cases.specs.CallCases.{sizeField, callAgrees?}
+use Rattle.call_cases.specs.CallCases.{size_field, call_agrees}
 use Rattle.case_outputs.proofs.Outputs.{filled-output}
 use borrow.Author.Rules.{rules}
 use Rattle.call_cases.proofs.call_case_agrees.Statement.{statement}
@@ -36,7 +36,7 @@ returns c =
     let text = args.text.now in
     let size = sized.room.ensures.0 ∙ ap (λ (k : ℕ). room k text) place.size-field.ensures.0 in
     c.before.call-agrees.ensures.0
-    ∙ ap (callAgrees? args.call text) (filled-output (sizeField args.call) text size place.before.output-buffer.ensures)
+    ∙ ap (call_agrees args.call text) (filled-output (size_field args.call) text size place.before.output-buffer.ensures)
 
 pub call-case-agrees-spec : {M : Type 1} → statement M
 call-case-agrees-spec =

@@ -6,8 +6,8 @@ use lib.ListN.{length, take}
 use lib.Seq.{take_all}
 use Rattle.lists.specs.Table.{zeros}
 use Rattle.text.proofs.Texts.{written-front}
-use Rattle.location_text.specs.Words.{textLength, locationText}
-use Rattle.vectors.specs.Answers.{same?}
+use Rattle.location_text.specs.Words.{text_length, location_text}
+use Rattle.vectors.specs.Answers.{is_same}
 use borrow.Author.Rules.{rules}
 use Rattle.case_outputs.proofs.is_located.Statement.{statement}
 use Rattle.case_outputs.proofs.is_located.Tie as tie
@@ -24,7 +24,7 @@ part-same-start c = search rules
 part-same-end : tie.Need-slice-bounds-same-end
 part-same-end c =
     let text = c.before.before.words in
-    let size : length text.result.bytes ≡ textLength = search rules in
+    let size : length text.result.bytes ≡ text_length = search rules in
     omega (arith, size, text.ensures.1.1)
 
 same-requires : tie.Need-same-requires
@@ -34,12 +34,12 @@ returns : tie.Need-returns
 returns c =
     let text = c.before.before.before.before.words in
     let end = text.result.length in
-    let told = locationText c.before.before.before.before.before.before.args.l in
+    let told = location_text c.before.before.before.before.before.before.args.l in
     let size = text.ensures.1.0 in
-    let room : length told ≤ length (zeros textLength) = omega (arith, size, text.ensures.1.1) in
-    let front = written-front end told (zeros textLength) (omega (arith, size)) room ∙ take_all end told (omega (arith, size)) in
+    let room : length told ≤ length (zeros text_length) = omega (arith, size, text.ensures.1.1) in
+    let front = written-front end told (zeros text_length) (omega (arith, size)) room ∙ take_all end told (omega (arith, size)) in
     let found = ap₂ take (sub-zero end) text.ensures.0 ∙ front in
-    c.same.ensures ∙ ap₂ same? found refl
+    c.same.ensures ∙ ap₂ is_same found refl
 
 pub is-located-spec : {M : Type 1} → statement M
 is-located-spec =

@@ -2,7 +2,7 @@ use mathlib.Core.Path.{◌≡◌, ap, ◌∙◌}
 use mathlib.Core.List.{List, ◌∷◌, append-nil}
 use Prim.Native.Nat.{ℕ}
 use Rattle.encoding.proofs.Buffers.{put-exact}
-use Rattle.triples.proofs.Triples.{length-tripleBytes}
+use Rattle.triples.proofs.Triples.{length-triple_bytes}
 use borrow.Author.Rules.{rules}
 use Rattle.derivation.proofs.key_input.Statement.{statement}
 use Rattle.derivation.proofs.key_input.Tie as tie
@@ -25,7 +25,7 @@ write-triple-requires c κs = search rules
 returns : tie.Need-returns
 returns c =
     let triple = c.before.write-triple.ensures in
-    ap (λ (l : List ℕ). 0x01 ∷ l) (append-nil _ ∙ triple ∙ put-exact _ _ (length-tripleBytes _ _ _))
+    ap (λ (l : List ℕ). 0x01 ∷ l) (append-nil _ ∙ triple ∙ put-exact _ _ (length-triple_bytes _ _ _))
 
 pub key-input-spec : {M : Type 1} → statement M
 key-input-spec =

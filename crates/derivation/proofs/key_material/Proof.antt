@@ -1,4 +1,4 @@
-use Rattle.derivation.specs.Derivation.{keyMaterial}
+use Rattle.derivation.specs.Derivation.{key_material}
 use borrow.Author.Rules.{rules}
 use Rattle.derivation.proofs.key_material.Statement.{statement}
 use Rattle.derivation.proofs.key_material.Tie as tie
@@ -16,7 +16,7 @@ shake256-requires : tie.Need-shake256-requires
 shake256-requires c κs = search rules
 
 returns : tie.Need-returns
-unfolding keyMaterial
+unfolding key_material
 returns c = cc
 
 pub key-material-spec : {M : Type 1} → statement M

@@ -2,7 +2,7 @@ use mathlib.Core.Path.{ap, ◌∙◌}
 use mathlib.Core.List.{List, ◌++◌}
 use Prim.Native.Nat.{ℕ}
 use Rattle.derivation.specs.Derivation.{tag_of}
-use Rattle.derivation.proofs.Laws.{body-by, tag-by}
+use Rattle.derivation.proofs.Laws.{body_by, tag_by}
 use borrow.Author.Rules.{rules}
 use Rattle.derivation.proofs.protect.Statement.{statement}
 use Rattle.derivation.proofs.protect.Tie as tie
@@ -29,8 +29,8 @@ returns c =
     let e2 = args.e2 in
     let entry = args.entry.now in
     let (first, second, third) = derived.derive-keys.ensures in
-    let body = body-by r e1 e2 entry first put.under-keystream.ensures in
-    (body, tag-by r e1 e2 _ second third c.tag.ensures ∙ ap (λ (s : List ℕ). tag_of r e1 e2 (args.front.now ++ s)) body)
+    let body = body_by r e1 e2 entry first put.under-keystream.ensures in
+    (body, tag_by r e1 e2 _ second third c.tag.ensures ∙ ap (λ (s : List ℕ). tag_of r e1 e2 (args.front.now ++ s)) body)
 
 pub protect-spec : {M : Type 1} → statement M
 protect-spec =

@@ -1,6 +1,6 @@
 use mathlib.Core.Path.{sym, ap, ◌∙◌}
 use Rattle.gf128.specs.Bytes.{sum}
-use Rattle.derivation.specs.Derivation.{keystream, underKeystream}
+use Rattle.derivation.specs.Derivation.{keystream, under_keystream}
 use borrow.Author.Rules.{rules}
 use Rattle.derivation.proofs.under_keystream.Statement.{statement}
 use Rattle.derivation.proofs.under_keystream.Tie as tie
@@ -15,7 +15,7 @@ same_length : tie.Need-same-length
 same_length c = search rules
 
 returns : tie.Need-returns
-unfolding underKeystream
+unfolding under_keystream
 returns c =
     let made = c.before.before.before.before.before.before in
     let args = made.before.before.before.before.args in

@@ -1,4 +1,4 @@
-use Rattle.desk_line.proofs.Lines.{line-by-answer, other-length-line}
+use Rattle.desk_line.proofs.Lines.{line_by-answer, other_length_line}
 use Rattle.answer_line.proofs.Lines.{holds}
 use borrow.Author.Rules.{rules}
 use Rattle.desk_line.proofs.line.Statement.{statement}
@@ -10,7 +10,7 @@ refusal-line-requires c κs = search rules
 returns : tie.Need-returns
 returns c =
     let input = c.before.before.before.args.input.now in
-    holds (other-length-line input c.before.if1.true) c.refusal-line.ensures
+    holds (other_length_line input c.before.if1.true) c.refusal-line.ensures
 
 open-input-requires : tie.Need-open-input-requires
 open-input-requires c κs = search rules
@@ -21,7 +21,7 @@ line-requires c κs = search rules
 returns-2 : tie.Need-returns-2
 returns-2 c =
     let opened = c.before.before in
-    holds (line-by-answer opened.before.before.before.args.input.now opened.open-input.ensures.0 opened.open-input.ensures.1) c.line.ensures
+    holds (line_by-answer opened.before.before.before.args.input.now opened.open-input.ensures.0 opened.open-input.ensures.1) c.line.ensures
 
 pub line-spec : {M : Type 1} → statement M
 line-spec =

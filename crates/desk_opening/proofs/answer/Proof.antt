@@ -1,6 +1,6 @@
 use mathlib.Core.Path.{sym}
 use lib.ListN.{length}
-use Rattle.desk_opening.proofs.Answers.{answer-by-length}
+use Rattle.desk_opening.proofs.Answers.{answer_by_length}
 use borrow.Author.Tests.{ne_eqb}
 use borrow.Author.Rules.{rules}
 use Rattle.desk_opening.proofs.answer.Statement.{statement}
@@ -9,7 +9,7 @@ use Rattle.desk_opening.proofs.answer.Tie as tie
 returns : tie.Need-returns
 returns c =
     let input = c.before.before.args.input.now in
-    sym (answer-by-length input (ne_eqb (length input) 10026 c.if1.true))
+    sym (answer_by_length input (ne_eqb (length input) 10026 c.if1.true))
 
 open-input-requires : tie.Need-open-input-requires
 open-input-requires c κs = search rules

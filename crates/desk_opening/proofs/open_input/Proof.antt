@@ -2,11 +2,11 @@ use mathlib.Core.Path.{sym, ap, ◌∙◌}
 use lib.ListN.{length}
 use Rattle.lists.specs.Table.{zeros}
 use Rattle.answers.specs.declared.Answer.{Answer}
-use Rattle.answers.specs.Answers.{onDone}
-use Rattle.records.specs.Layout.{blockLength}
-use Rattle.calls.specs.Calls.{openOut}
-use Rattle.desk_opening.specs.Input.{keyPart, sealedPart, dummyPart, deskEntry}
-use Rattle.desk_opening.proofs.Answers.{answer-by-length}
+use Rattle.answers.specs.Answers.{on_done}
+use Rattle.records.specs.Layout.{block_length}
+use Rattle.calls.specs.Calls.{open_out}
+use Rattle.desk_opening.specs.Input.{key_part, sealed_part, dummy_part, desk_entry}
+use Rattle.desk_opening.proofs.Answers.{answer_by_length}
 use borrow.Author.Tests.{eq-eqb}
 use borrow.Author.Rules.{rules}
 use Rattle.desk_opening.proofs.open_input.Statement.{statement}
@@ -43,13 +43,13 @@ open-parts-requires : tie.Need-open-parts-requires
 open-parts-requires c κs = search rules
 
 returns : tie.Need-returns
-unfolding deskEntry
+unfolding desk_entry
 returns c =
     let start = c.before.before.before.before.before in
     let input = start.args.input.now in
     let (says, entry) = c.open-parts.ensures in
-    let answer = says ∙ sym (answer-by-length input (eq-eqb (length input) 10026 start.requires)) in
-    (answer, entry ∙ ap (λ (a : Answer). onDone a (openOut (keyPart input) (sealedPart input) (dummyPart input) (zeros blockLength)) (zeros blockLength)) answer)
+    let answer = says ∙ sym (answer_by_length input (eq-eqb (length input) 10026 start.requires)) in
+    (answer, entry ∙ ap (λ (a : Answer). on_done a (open_out (key_part input) (sealed_part input) (dummy_part input) (zeros block_length)) (zeros block_length)) answer)
 
 pub open-input-spec : {M : Type 1} → statement M
 open-input-spec =

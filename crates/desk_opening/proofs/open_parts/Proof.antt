@@ -1,4 +1,4 @@
-use Rattle.desk_opening.proofs.Answers.{opens-version-1, opens-no-other}
+use Rattle.desk_opening.proofs.Answers.{opens_version_1, opens_no_other}
 use borrow.Author.Rules.{rules}
 use Rattle.desk_opening.proofs.open_parts.Statement.{statement}
 use Rattle.desk_opening.proofs.open_parts.Tie as tie
@@ -21,7 +21,7 @@ returns c =
     let header = told.before.before in
     let args = header.before.before.before.before.args in
     let (answer, (entry, _)) = c.before.«open».ensures in
-    opens-version-1 args.key.now args.sealed.now args.dummy.now header.check-header.ensures told.enum_told.given.1 answer entry
+    opens_version_1 args.key.now args.sealed.now args.dummy.now header.check-header.ensures told.enum_told.given.1 answer entry
 
 enum-told-2 : tie.Need-enum-told-2
 enum-told-2 c = search rules
@@ -30,7 +30,7 @@ returns-2 : tie.Need-returns-2
 returns-2 c =
     let header = c.before.before in
     let args = header.before.before.before.before.args in
-    opens-no-other args.key.now args.sealed.now args.dummy.now header.check-header.ensures c.enum-told2.given.1
+    opens_no_other args.key.now args.sealed.now args.dummy.now header.check-header.ensures c.enum-told2.given.1
 
 pub open-parts-spec : {M : Type 1} → statement M
 open-parts-spec =

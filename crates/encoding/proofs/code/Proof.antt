@@ -2,7 +2,7 @@ use native.Mathlib.Omega.{arith}
 use lib.Dec.{eqb}
 use Rattle.ring.specs.Ring.{q}
 use Rattle.encoding.specs.Codes.{code_of}
-use Rattle.encoding.proofs.Codes.{chosen, boolByte-lt, code_lt}
+use Rattle.encoding.proofs.Codes.{chosen, bool_byte-lt, code_lt}
 use Rattle.encoding.proofs.code.Statement.{statement}
 use Rattle.encoding.proofs.code.Tie as tie
 
@@ -13,10 +13,10 @@ cast-result-2 : tie.Need-overflow-cast-result-2
 cast-result-2 c = omega arith
 
 mul-result : tie.Need-overflow-mul-result
-mul-result c = omega (arith, boolByte-lt (eqb c.args.c 59392))
+mul-result c = omega (arith, bool_byte-lt (eqb c.args.c 59392))
 
 add-result : tie.Need-overflow-add-result
-add-result c = omega (arith, boolByte-lt (eqb c.args.c 1), boolByte-lt (eqb c.args.c 59392))
+add-result c = omega (arith, bool_byte-lt (eqb c.args.c 1), bool_byte-lt (eqb c.args.c 59392))
 
 returns : tie.Need-returns
 unfolding code_of

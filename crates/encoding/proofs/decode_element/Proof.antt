@@ -7,7 +7,7 @@ use Rattle.lists.proofs.Fill.{ZeroFilled}
 use Rattle.ring.specs.Ring.{n}
 use Rattle.encoding.specs.Words.{words, words_to}
 use Rattle.lists.proofs.TableFill.{zero-filled-start, zero-filled-next, zero-filled-table}
-use Rattle.encoding.proofs.Words.{words-entry, words-missing}
+use Rattle.encoding.proofs.Words.{words_entry, words_missing}
 use borrow.Author.Rules.{rules}
 use Rattle.encoding.proofs.decode_element.Statement.{statement}
 use Rattle.encoding.proofs.decode_element.Tie as tie
@@ -60,14 +60,14 @@ loop-again c =
     let bytes = at.before.before.before.args.bytes.now in
     let h : at.loop.k < length bytes / 2 = omega arith in
     zero-filled-next (λ k. get_or (words bytes) k 0) at.loop.invariant c.before.before.before.loop-test.true
-    (c.word.ensures ∙ sym (words-entry bytes at.loop.k h)) refl
+    (c.word.ensures ∙ sym (words_entry bytes at.loop.k h)) refl
 
 returns : tie.Need-returns invariant-loop decreases-loop
 unfolding words_to
 returns c =
     let bytes = c.before.before.before.before.args.bytes.now in
     zero-filled-table (λ k. get_or (words bytes) k 0) c.before.loop.invariant c.loop-test.false (omega arith)
-    (λ k l h. words-missing bytes k (omega arith))
+    (λ k l h. words_missing bytes k (omega arith))
 
 pub decode-element-spec : {M : Type 1} → statement M
 decode-element-spec =

@@ -5,16 +5,16 @@ use lib.ListN.{get_or}
 use Rattle.lists.specs.Table.{table}
 use Rattle.lists.proofs.Fill.{ZeroFilled}
 use Rattle.ring.specs.Ring.{q, n}
-use Rattle.encoding.specs.Codes.{code_at, coefficientOf, unpacked}
+use Rattle.encoding.specs.Codes.{code_at, coefficient_of, unpacked}
 use Rattle.lists.proofs.TableFill.{zero-filled-start, zero-filled-table}
-use Rattle.encoding.proofs.Digits.{digit-missing}
-use Rattle.encoding.proofs.Codes.{coefficient-none, four-more}
+use Rattle.encoding.proofs.Digits.{digit_missing}
+use Rattle.encoding.proofs.Codes.{coefficient_none, four_more}
 use borrow.Author.Rules.{rules}
 use Rattle.encoding.proofs.decode_ternary.Statement.{statement}
 use Rattle.encoding.proofs.decode_ternary.Tie as tie
 
 abbrev invariant-loop : tie.invariant-loop
-invariant-loop bytes t₀ count i₀ t i = ZeroFilled n (table (4 * count) (λ k. coefficientOf q (code_at bytes k))) t (4 * i)
+invariant-loop bytes t₀ count i₀ t i = ZeroFilled n (table (4 * count) (λ k. coefficient_of q (code_at bytes k))) t (4 * i)
 
 abbrev decreases-loop : tie.decreases-loop
 decreases-loop bytes t₀ count i₀ t i = count - i
@@ -87,15 +87,15 @@ loop-again c =
     let at = c.before.before.before.before.before.before in
     let bytes = at.before.before.before.args.bytes.now in
     let b : get_or bytes at.loop.i 0 < 256 = omega (arith, c.before.before.before.before.shared-slice-known2.given at.loop.i) in
-    four-more q _ at.loop.i bytes at.loop.invariant c.before.before.before.before.before.loop-test.true b
+    four_more q _ at.loop.i bytes at.loop.invariant c.before.before.before.before.before.loop-test.true b
     c.before.before.before.coefficient.ensures c.before.before.coefficient2.ensures c.before.coefficient3.ensures c.coefficient4.ensures
 
 returns : tie.Need-returns invariant-loop decreases-loop
 unfolding unpacked
 returns c =
     let bytes = c.before.before.before.before.args.bytes.now in
-    zero-filled-table (λ k. coefficientOf q (code_at bytes k)) c.before.loop.invariant (omega arith) (omega arith)
-    (λ k l h. ap (coefficientOf q) (digit-missing 4 4 bytes k (omega arith)) ∙ coefficient-none q)
+    zero-filled-table (λ k. coefficient_of q (code_at bytes k)) c.before.loop.invariant (omega arith) (omega arith)
+    (λ k l h. ap (coefficient_of q) (digit_missing 4 4 bytes k (omega arith)) ∙ coefficient_none q)
 
 pub decode-ternary-spec : {M : Type 1} → statement M
 decode-ternary-spec =

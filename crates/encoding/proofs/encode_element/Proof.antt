@@ -4,23 +4,23 @@ use native.Mathlib.Omega.{arith}
 use lib.ListN.{get_or, length-set}
 use mir.Syntax.{w16}
 use mir.Val.{Fits}
-use Rattle.encoding.specs.Digits.{digitAt}
+use Rattle.encoding.specs.Digits.{digit_at}
 use Rattle.encoding.specs.Words.{bytes_of}
 use Rattle.encoding.proofs.Digits.{digit-first, digit-in}
-use Rattle.encoding.proofs.Words.{length-elementBytes}
-use Rattle.encoding.proofs.Buffers.{Put, put-none, put_next, put-done, put-short}
+use Rattle.encoding.proofs.Words.{length-element_bytes}
+use Rattle.encoding.proofs.Buffers.{Put, put_none, put_next, put-done, put_short}
 use borrow.Author.Rules.{rules}
 use Rattle.encoding.proofs.encode_element.Statement.{statement}
 use Rattle.encoding.proofs.encode_element.Tie as tie
 
 abbrev invariant-loop : tie.invariant-loop
-invariant-loop out₀ a k₀ out k = Put 2048 (digitAt 256 2 a) out₀ out (2 * k)
+invariant-loop out₀ a k₀ out k = Put 2048 (digit_at 256 2 a) out₀ out (2 * k)
 
 abbrev decreases-loop : tie.decreases-loop
 decreases-loop out₀ a k₀ out k = 1024 - k
 
 loop-holds : tie.Need-loop-init invariant-loop decreases-loop
-loop-holds c = put-none 2048 _ _ (omega arith)
+loop-holds c = put_none 2048 _ _ (omega arith)
 
 mul-w : tie.Need-overflow-mul-w invariant-loop decreases-loop
 mul-w c = omega arith
@@ -62,7 +62,7 @@ loop-again c =
     let a = c.before.before.before.args.t1 in
     let k = c.before.loop.k in
     let w : Fits w16 (get_or a k 0) = search rules in
-    let high : get_or a k 0 / 256 ≡ digitAt 256 2 a (2 * k + 1) = sym (digit-in 256 2 a k 1 (omega arith) ∙ omega (arith, w.fits)) in
+    let high : get_or a k 0 / 256 ≡ digit_at 256 2 a (2 * k + 1) = sym (digit-in 256 2 a k 1 (omega arith) ∙ omega (arith, w.fits)) in
     put_next (put_next c.before.loop.invariant (omega arith) (sym (digit-first 256 2 a k (omega arith))) refl) (omega arith) high (omega arith)
 
 same_length : tie.Need-same-length invariant-loop decreases-loop
@@ -73,7 +73,7 @@ unfolding bytes_of
 returns c = put-done c.before.loop.invariant (omega arith)
 
 returns-2 : tie.Need-returns-2 invariant-loop decreases-loop
-returns-2 c = sym (put-short _ _ (rw length-elementBytes c.if1.false))
+returns-2 c = sym (put_short _ _ (rw length-element_bytes c.if1.false))
 
 pub encode-element-spec : {M : Type 1} → statement M
 encode-element-spec =

@@ -2,8 +2,8 @@ use mathlib.Core.Path.{◌≡◌, sym}
 use Prim.Native.Nat.{◌/◌, ◌%◌}
 use native.Mathlib.Omega.{arith}
 use lib.ListN.{length-set}
-use Rattle.encoding.proofs.Headers.{length-header, header-stored}
-use Rattle.encoding.proofs.Buffers.{put-short}
+use Rattle.encoding.proofs.Headers.{length_header_lem, header_stored}
+use Rattle.encoding.proofs.Buffers.{put_short}
 use borrow.Author.Rules.{rules}
 use Rattle.encoding.proofs.encode_header.Statement.{statement}
 use Rattle.encoding.proofs.encode_header.Tie as tie
@@ -45,10 +45,10 @@ returns : tie.Need-returns
 returns c =
     let v = c.before.args.version in
     let high : v / 256 ≡ v / 256 % 256 = omega arith in
-    rw high (header-stored _ v c.before.args.out.now c.if1.true)
+    rw high (header_stored _ v c.before.args.out.now c.if1.true)
 
 returns-2 : tie.Need-returns-2
-returns-2 c = sym (put-short _ _ (rw length-header c.if1.false))
+returns-2 c = sym (put_short _ _ (rw length_header_lem c.if1.false))
 
 pub encode-header-spec : {M : Type 1} → statement M
 encode-header-spec =

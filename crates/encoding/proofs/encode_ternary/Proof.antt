@@ -3,8 +3,8 @@ use Prim.Native.Nat.{◌-◌}
 use native.Mathlib.Omega.{arith}
 use Rattle.ring.specs.Ring.{q}
 use Rattle.encoding.specs.Codes.{packed_at, packed}
-use Rattle.encoding.proofs.Codes.{length-ternaryBytes}
-use Rattle.encoding.proofs.Buffers.{Put, put-none, put_next, put-done, put-short}
+use Rattle.encoding.proofs.Codes.{length-ternary_bytes}
+use Rattle.encoding.proofs.Buffers.{Put, put_none, put_next, put-done, put_short}
 use borrow.Author.Rules.{rules}
 use Rattle.encoding.proofs.encode_ternary.Statement.{statement}
 use Rattle.encoding.proofs.encode_ternary.Tie as tie
@@ -16,7 +16,7 @@ abbrev decreases-loop : tie.decreases-loop
 decreases-loop out₀ t i₀ out i = 256 - i
 
 loop-holds : tie.Need-loop-init invariant-loop decreases-loop
-loop-holds c = put-none 256 _ _ (omega arith)
+loop-holds c = put_none 256 _ _ (omega arith)
 
 mul-k : tie.Need-overflow-mul-k invariant-loop decreases-loop
 mul-k c = omega arith
@@ -77,7 +77,7 @@ unfolding packed
 returns c = put-done c.before.loop.invariant (omega arith)
 
 returns-2 : tie.Need-returns-2 invariant-loop decreases-loop
-returns-2 c = sym (put-short _ _ (rw length-ternaryBytes c.if1.false))
+returns-2 c = sym (put_short _ _ (rw length-ternary_bytes c.if1.false))
 
 pub encode-ternary-spec : {M : Type 1} → statement M
 encode-ternary-spec =

@@ -1,7 +1,7 @@
 use Prim.Native.Nat.{◌-◌, ◌*◌}
 use native.Mathlib.Omega.{arith}
 use Rattle.lists.proofs.Scan.{passed_none}
-use Rattle.encoding.proofs.Codes.{ValidTo, byte-stop, byte_more, valid-end}
+use Rattle.encoding.proofs.Codes.{ValidTo, byte-stop, byte_more, valid_end}
 use borrow.Author.Rules.{rules}
 use Rattle.encoding.proofs.first_invalid_code.Statement.{statement}
 use Rattle.encoding.proofs.first_invalid_code.Tie as tie
@@ -43,7 +43,7 @@ loop-again : tie.Need-loop-preserved invariant-loop decreases-loop
 loop-again c = byte_more 256 _ c.before.before.before.before.loop.invariant (omega arith) c.before.invalid-in.ensures c.if1.false (omega arith)
 
 returns-2 : tie.Need-returns-2 invariant-loop decreases-loop
-returns-2 c = valid-end 256 _ c.before.loop.invariant (omega arith)
+returns-2 c = valid_end 256 _ c.before.loop.invariant (omega arith)
 
 pub first-invalid-code-spec : {M : Type 1} → statement M
 first-invalid-code-spec =

@@ -4,9 +4,9 @@ use native.Mathlib.Omega.{arith}
 use lib.Dec.{ltb}
 use lib.ListN.{length}
 use borrow.Author.Tests.{lt-ltb, le-ltb}
-use Rattle.lists.proofs.Scan.{Passed, passed_none, passed-more, passed-stop, passed-all}
+use Rattle.lists.proofs.Scan.{Passed, passed_none, passed_more, passed-stop, passed_all}
 use Rattle.ring.specs.Ring.{q, n}
-use Rattle.encoding.specs.Words.{firstFrom}
+use Rattle.encoding.specs.Words.{first_from}
 use borrow.Author.Rules.{rules}
 use Rattle.encoding.proofs.first_unreduced.Statement.{statement}
 use Rattle.encoding.proofs.first_unreduced.Tie as tie
@@ -27,7 +27,7 @@ array-read-if1 : tie.Need-array-read-if1 invariant-loop decreases-loop
 array-read-if1 c = omega arith
 
 returns : tie.Need-returns invariant-loop decreases-loop
-unfolding firstFrom
+unfolding first_from
 returns c =
     let at = c.before.before in
     let size : length at.before.args.t1 ≡ n = search rules in
@@ -43,15 +43,15 @@ loop-again : tie.Need-loop-preserved invariant-loop decreases-loop
 loop-again c =
     let at = c.before.before in
     let size : length at.before.args.t1 ≡ n = search rules in
-    passed-more at.loop.invariant (omega arith) (lt-ltb _ q c.if1.false)
+    passed_more at.loop.invariant (omega arith) (lt-ltb _ q c.if1.false)
 
 returns-2 : tie.Need-returns-2 invariant-loop decreases-loop
-unfolding firstFrom
+unfolding first_from
 returns-2 c =
     let at = c.before in
     let size : length at.before.args.t1 ≡ n = search rules in
     let all : at.loop.k ≡ n = omega (arith, at.loop.invariant.within) in
-    sym all ∙ passed-all at.loop.invariant (omega arith)
+    sym all ∙ passed_all at.loop.invariant (omega arith)
 
 pub first-unreduced-spec : {M : Type 1} → statement M
 first-unreduced-spec =

@@ -1,4 +1,4 @@
-use Rattle.encoding.specs.Header.{hasMark}
+use Rattle.encoding.specs.Header.{has_mark}
 use borrow.Author.Rules.{rules}
 use Rattle.encoding.proofs.has_mark.Statement.{statement}
 use Rattle.encoding.proofs.has_mark.Tie as tie
@@ -22,7 +22,7 @@ array-read-result-3 : tie.Need-array-read-result-3
 array-read-result-3 c = search rules
 
 returns : tie.Need-returns
-unfolding hasMark
+unfolding has_mark
 returns c = rw (c.byte-at3.ensures, c.before.byte-at2.ensures, c.before.before.byte_at.ensures)
 
 pub has-mark-spec : {M : Type 1} → statement M

@@ -5,10 +5,10 @@ use Prim.Native.Nat.{ℕ, ◌/◌, ◌%◌, ◌<◌}
 use native.Mathlib.Omega.{arith}
 use lib.Dec.{eqb, eqb→eq}
 use borrow.Author.Tests.{eq-eqb, ne_eqb}
-use Rattle.lists.specs.Table.{table, tableFrom}
-use Rattle.lists.specs.First.{firstFailing}
+use Rattle.lists.specs.Table.{table, table_from}
+use Rattle.lists.specs.First.{first_failing}
 use Rattle.lists.proofs.Finite.{at_each}
-use Rattle.encoding.specs.Codes.{codes_of, firstInvalid}
+use Rattle.encoding.specs.Codes.{codes_of, first_invalid}
 use Rattle.encoding.proofs.invalid_in.Statement.{statement}
 use Rattle.encoding.proofs.invalid_in.Tie as tie
 
@@ -16,9 +16,9 @@ use Rattle.encoding.proofs.invalid_in.Tie as tie
 abbrev tested : ℕ → ℕ
 tested b = cond (eqb (b % 4) 3) 0 (cond (eqb (b / 4 % 4) 3) 1 (cond (eqb (b / 16 % 4) 3) 2 (cond (eqb (b / 64) 3) 3 4)))
 
-by_tests : (b : ℕ) → b < 256 → tested b ≡ firstInvalid 1 (b ∷ [])
-unfolding firstInvalid codes_of firstFailing table tableFrom
-by_tests b h = eqb→eq _ _ (at_each 256 (λ k. eqb (tested k) (firstInvalid 1 (k ∷ []))) tt b h)
+by_tests : (b : ℕ) → b < 256 → tested b ≡ first_invalid 1 (b ∷ [])
+unfolding first_invalid codes_of first_failing table table_from
+by_tests b h = eqb→eq _ _ (at_each 256 (λ k. eqb (tested k) (first_invalid 1 (k ∷ []))) tt b h)
 
 returns : tie.Need-returns
 returns c = rw (eq-eqb _ 3 c.if1.true) at (by_tests c.before.args.b (omega arith))

@@ -1,5 +1,5 @@
 use native.Mathlib.Omega.{arith}
-use Rattle.encoding.specs.Header.{versionOf}
+use Rattle.encoding.specs.Header.{version_of}
 use borrow.Author.Rules.{rules}
 use Rattle.encoding.proofs.version.Statement.{statement}
 use Rattle.encoding.proofs.version.Tie as tie
@@ -14,7 +14,7 @@ word-requires : tie.Need-word-requires
 word-requires c κs = search rules
 
 returns : tie.Need-returns
-unfolding versionOf
+unfolding version_of
 returns c = omega (arith, c.word.ensures, c.before.byte-at2.ensures, c.before.before.byte_at.ensures)
 
 pub version-spec : {M : Type 1} → statement M

@@ -1,5 +1,5 @@
 use mathlib.Core.Path.{ap₂, ◌∙◌}
-use Rattle.records.specs.Records.{encapsulationBytes}
+use Rattle.records.specs.Records.{encapsulation_bytes}
 use Rattle.example_records.specs.Made.{encapsulation}
 use borrow.Author.Rules.{rules}
 use Rattle.example_records.proofs.encapsulation.Statement.{statement}
@@ -21,7 +21,7 @@ returns : tie.Need-returns
 unfolding encapsulation
 returns c =
     let second = c.before.before.before in
-    c.before.write-encapsulation.ensures ∙ ap₂ encapsulationBytes second.before.constant.ensures second.constant2.ensures
+    c.before.write-encapsulation.ensures ∙ ap₂ encapsulation_bytes second.before.constant.ensures second.constant2.ensures
 
 pub encapsulation-spec : {M : Type 1} → statement M
 encapsulation-spec =

@@ -1,8 +1,8 @@
 use mathlib.Core.Path.{ap₂, ◌∙◌}
 use mathlib.Core.List.{append-nil}
-use Rattle.records.specs.Layout.{publicKeyMark}
-use Rattle.records.specs.Records.{recordBytes}
-use Rattle.example_records.specs.Made.{publicKey}
+use Rattle.records.specs.Layout.{public_key_mark}
+use Rattle.records.specs.Records.{record_bytes}
+use Rattle.example_records.specs.Made.{public_key}
 use borrow.Author.Rules.{rules}
 use Rattle.example_records.proofs.public_key.Statement.{statement}
 use Rattle.example_records.proofs.public_key.Tie as tie
@@ -20,10 +20,10 @@ write-record-requires : tie.Need-write-record-requires
 write-record-requires c κs = search rules
 
 returns : tie.Need-returns
-unfolding publicKey
+unfolding public_key
 returns c =
     let second = c.before.before.before in
-    c.before.write-record.ensures ∙ append-nil _ ∙ ap₂ (recordBytes publicKeyMark 1) second.before.constant.ensures second.constant2.ensures
+    c.before.write-record.ensures ∙ append-nil _ ∙ ap₂ (record_bytes public_key_mark 1) second.before.constant.ensures second.constant2.ensures
 
 pub public-key-spec : {M : Type 1} → statement M
 public-key-spec =

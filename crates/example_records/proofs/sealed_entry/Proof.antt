@@ -1,8 +1,8 @@
 use mathlib.Core.Path.{ap₂, ◌∙◌}
 use mathlib.Core.List.{◌++◌}
-use Rattle.records.specs.Layout.{sealedEntryMark}
-use Rattle.records.specs.Records.{recordBytes}
-use Rattle.example_records.specs.Made.{sealedEntry}
+use Rattle.records.specs.Layout.{sealed_entry_mark}
+use Rattle.records.specs.Records.{record_bytes}
+use Rattle.example_records.specs.Made.{sealed_entry}
 use Rattle.example_records.proofs.Behind.{drop-zeros}
 use borrow.Author.Rules.{rules}
 use Rattle.example_records.proofs.sealed_entry.Statement.{statement}
@@ -21,10 +21,10 @@ write-record-requires : tie.Need-write-record-requires
 write-record-requires c κs = search rules
 
 returns : tie.Need-returns
-unfolding sealedEntry
+unfolding sealed_entry
 returns c =
     let second = c.before.before.before in
-    c.before.write-record.ensures ∙ ap₂ ◌++◌ (ap₂ (recordBytes sealedEntryMark 1) second.before.constant.ensures second.constant2.ensures) (drop-zeros 4101 32)
+    c.before.write-record.ensures ∙ ap₂ ◌++◌ (ap₂ (record_bytes sealed_entry_mark 1) second.before.constant.ensures second.constant2.ensures) (drop-zeros 4101 32)
 
 pub sealed-entry-spec : {M : Type 1} → statement M
 sealed-entry-spec =

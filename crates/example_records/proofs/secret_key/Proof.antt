@@ -1,8 +1,8 @@
 use mathlib.Core.Path.{ap₂, ◌∙◌}
 use mathlib.Core.List.{◌++◌}
-use Rattle.records.specs.Layout.{secretKeyMark}
-use Rattle.records.specs.Records.{recordBytes}
-use Rattle.example_records.specs.Made.{secretKey}
+use Rattle.records.specs.Layout.{secret_key_mark}
+use Rattle.records.specs.Records.{record_bytes}
+use Rattle.example_records.specs.Made.{secret_key}
 use Rattle.example_records.proofs.Behind.{drop-zeros}
 use borrow.Author.Rules.{rules}
 use Rattle.example_records.proofs.secret_key.Statement.{statement}
@@ -21,10 +21,10 @@ write-record-requires : tie.Need-write-record-requires
 write-record-requires c κs = search rules
 
 returns : tie.Need-returns
-unfolding secretKey
+unfolding secret_key
 returns c =
     let second = c.before.before.before in
-    c.before.write-record.ensures ∙ ap₂ ◌++◌ (ap₂ (recordBytes secretKeyMark 1) second.before.constant.ensures second.constant2.ensures) (drop-zeros 4101 256)
+    c.before.write-record.ensures ∙ ap₂ ◌++◌ (ap₂ (record_bytes secret_key_mark 1) second.before.constant.ensures second.constant2.ensures) (drop-zeros 4101 256)
 
 pub secret-key-spec : {M : Type 1} → statement M
 secret-key-spec =

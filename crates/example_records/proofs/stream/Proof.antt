@@ -1,5 +1,5 @@
 use Prim.Native.Nat.{◌-◌}
-use Rattle.example_records.proofs.Streams.{Written, written_none, written-more, written_all}
+use Rattle.example_records.proofs.Streams.{Written, written_none, written_more, written_all}
 use borrow.Author.Rules.{rules}
 use Rattle.example_records.proofs.stream.Statement.{statement}
 use Rattle.example_records.proofs.stream.Tie as tie
@@ -35,7 +35,7 @@ loop-less : tie.Need-loop-smaller invariant-loop decreases-loop
 loop-less c = search rules
 
 loop-again : tie.Need-loop-preserved invariant-loop decreases-loop
-loop-again c = written-more c.before.loop.invariant c.loop-test.true c.before.before.requires
+loop-again c = written_more c.before.loop.invariant c.loop-test.true c.before.before.requires
 
 returns : tie.Need-returns invariant-loop decreases-loop
 returns c = written_all c.before.loop.invariant c.loop-test.false

@@ -1,6 +1,6 @@
 use Prim.Native.Nat.{◌-◌}
 use native.Mathlib.Omega.{arith}
-use Rattle.gf128.proofs.InPlace.{Added, added_none, added_more, added-all}
+use Rattle.gf128.proofs.InPlace.{Added, added_none, added_more, added_all}
 use borrow.Author.Rules.{rules}
 use Rattle.gf128.proofs.add_to.Statement.{statement}
 use Rattle.gf128.proofs.add_to.Tie as tie
@@ -36,7 +36,7 @@ same_length : tie.Need-same-length invariant-loop decreases-loop
 same_length c = search rules
 
 returns : tie.Need-returns invariant-loop decreases-loop
-returns c = added-all c.before.loop.invariant (omega arith)
+returns c = added_all c.before.loop.invariant (omega arith)
 
 pub add_to_spec : {M : Type 1} → statement M
 add_to_spec =

@@ -7,7 +7,7 @@ use Rattle.gf128.specs.Field.{times}
 use Rattle.gf128.specs.Bytes.{number, bytes, folded}
 use Rattle.gf128.specs.Words.{value}
 use Rattle.gf128.proofs.Digits.{number-bytes}
-use Rattle.gf128.proofs.TagLaws.{folded-none, number-folded}
+use Rattle.gf128.proofs.TagLaws.{folded_none, number-folded}
 use Rattle.gf128.proofs.TwoWords.{two-words-lt}
 use Rattle.gf128.proofs.FieldLaws.{bytes-block}
 use borrow.Author.Rules.{rules}
@@ -27,7 +27,7 @@ loop-holds c =
     let hi : start.hi < 2 ^ 64 = omega arith in
     let lo : start.lo < 2 ^ 64 = omega arith in (
       search rules,
-      sym (ap number (folded-none (bytes 16 (value args.k)) (bytes 16 (value start)) args.blocks.now) ∙ number-bytes 16 (value start) (two-words-lt start.hi start.lo hi lo)),
+      sym (ap number (folded_none (bytes 16 (value args.k)) (bytes 16 (value start)) args.blocks.now) ∙ number-bytes 16 (value start) (two-words-lt start.hi start.lo hi lo)),
     )
 
 mul_at : tie.Need-overflow-mul-at invariant-loop decreases-loop

@@ -3,8 +3,8 @@ use Prim.Native.Nat.{ℕ, ◌*◌, ◌-◌, ◌/◌, ◌^◌, ◌≤◌, ◌<◌
 use native.Mathlib.Nat.{div-one}
 use native.Mathlib.Omega.{arith}
 use lib.Bits.{bit_xor}
-use Rattle.gf128.specs.Words.{value, timesX}
-use Rattle.gf128.proofs.Horner.{horner, times-horner, horner-step}
+use Rattle.gf128.specs.Words.{value, times_x}
+use Rattle.gf128.proofs.Horner.{horner, times-horner, horner_step}
 use Rattle.gf128.proofs.TwoWords.{two-words-lt}
 use borrow.Author.Rules.{rules}
 use Rattle.gf128.proofs.mul.Statement.{statement}
@@ -44,9 +44,9 @@ loop-again c =
     let a = value l.before.args.a in (
       search rules,
       c.add.ensures
-          ∙ ap₂ bit_xor (c.before.before.before.times-x.ensures ∙ ap timesX l.loop.invariant.1)
+          ∙ ap₂ bit_xor (c.before.before.before.times-x.ensures ∙ ap times_x l.loop.invariant.1)
           (c.before.times-bit.ensures ∙ ap (λ (n : ℕ). n * a) c.before.before.coefficient.ensures)
-          ∙ horner-step l.loop.i a (value l.before.args.b) c.before.before.before.before.loop-test.true l.loop.invariant.0,
+          ∙ horner_step l.loop.i a (value l.before.args.b) c.before.before.before.before.loop-test.true l.loop.invariant.0,
     )
 
 returns : tie.Need-returns invariant-loop decreases-loop

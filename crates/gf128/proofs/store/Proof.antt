@@ -1,9 +1,9 @@
 use mathlib.Core.Path.{refl, sym, ◌∙◌}
 use Prim.Native.Nat.{◌-◌, ◌<◌, ◌^◌}
 use native.Mathlib.Omega.{arith}
-use Rattle.lists.proofs.Fill.{FilledHalves, filled-halves-none, filled-halves-more, filled-halves-all}
+use Rattle.lists.proofs.Fill.{FilledHalves, filled-halves_none, filled-halves_more, filled-halves_all}
 use Rattle.gf128.specs.Bytes.{bytes}
-use Rattle.gf128.proofs.Digits.{length-bytes, getD-bytes, bytes-append}
+use Rattle.gf128.proofs.Digits.{length-bytes, get_or-bytes, bytes-append}
 use borrow.Author.Rules.{rules}
 use Rattle.gf128.proofs.store.Statement.{statement}
 use Rattle.gf128.proofs.store.Tie as tie
@@ -15,7 +15,7 @@ abbrev decreases-loop : tie.decreases-loop
 decreases-loop e r₀ i₀ r i = 8 - i
 
 loop-holds : tie.Need-loop-init invariant-loop decreases-loop
-loop-holds c = filled-halves-none 8 _ _ _ (length-bytes 8 _) (length-bytes 8 _) refl
+loop-holds c = filled-halves_none 8 _ _ _ (length-bytes 8 _) (length-bytes 8 _) refl
 
 mul-r : tie.Need-overflow-mul-r invariant-loop decreases-loop
 mul-r c = search rules
@@ -55,13 +55,13 @@ loop-again c =
     let e = c.before.before.before.before.args.e in
     let i = c.before.before.before.loop.i in
     let h : i < 8 = omega arith in
-    filled-halves-more 0 c.before.before.before.loop.invariant h (sym (getD-bytes 8 e.lo i h)) (sym (getD-bytes 8 e.hi i h))
+    filled-halves_more 0 c.before.before.before.loop.invariant h (sym (get_or-bytes 8 e.lo i h)) (sym (get_or-bytes 8 e.hi i h))
 
 returns : tie.Need-returns invariant-loop decreases-loop
 returns c =
     let e = c.before.before.args.e in
     let h : e.lo < 2 ^ 64 = omega arith in
-    filled-halves-all c.before.loop.invariant c.loop-test.false ∙ sym (bytes-append 8 8 e.hi e.lo h)
+    filled-halves_all c.before.loop.invariant c.loop-test.false ∙ sym (bytes-append 8 8 e.hi e.lo h)
 
 pub store_spec : {M : Type 1} → statement M
 store_spec =

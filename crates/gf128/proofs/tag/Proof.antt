@@ -9,8 +9,8 @@ use mir.Val.{Fits}
 use borrow.Author.Rules.{rules}
 use Rattle.lists.specs.Table.{zeros}
 use Rattle.gf128.specs.Bytes.{Block, number, bytes, folded}
-use Rattle.gf128.proofs.FieldLaws.{bytes-sum, bytes-of-block, zeros-block}
-use Rattle.gf128.proofs.TagLaws.{folded-block, tag-behind}
+use Rattle.gf128.proofs.FieldLaws.{bytes-sum, bytes_of-block, zeros-block}
+use Rattle.gf128.proofs.TagLaws.{folded-block, tag_behind}
 use Rattle.gf128.proofs.tag.Statement.{statement}
 use Rattle.gf128.proofs.tag.Tie as tie
 
@@ -56,9 +56,9 @@ returns c =
     let rest = args.blocks.now in
     let b1 : Block k1 = record { size = omega arith; small = λ j. let byte : Fits w8 (get_or k1 j 0) = search rules in byte.fits } in
     let b2 : Block k2 = record { size = omega arith; small = λ j. let byte : Fits w8 (get_or k2 j 0) = search rules in byte.fits } in
-    let key = ap (bytes 16) loaded.load.ensures ∙ bytes-of-block b1 in
+    let key = ap (bytes 16) loaded.load.ensures ∙ bytes_of-block b1 in
     let start = folded-block k1 (length s / 16) s zeros-block in
-    let from_front = ap (bytes 16) (first.fold.ensures ∙ ap₂ (λ (k x : List ℕ). number (folded k x (length s / 16) s)) key no_bytes) ∙ bytes-of-block start in
+    let from_front = ap (bytes 16) (first.fold.ensures ∙ ap₂ (λ (k x : List ℕ). number (folded k x (length s / 16) s)) key no_bytes) ∙ bytes_of-block start in
     c.store.ensures
     ∙ ap (bytes 16)
     (c.before.add.ensures
@@ -66,7 +66,7 @@ returns c =
     (second.fold2.ensures ∙ ap₂ (λ (k x : List ℕ). number (folded k x (length rest / 16) rest)) key from_front)
     c.before.before.load2.ensures)
     ∙ bytes-sum (folded-block k1 (length rest / 16) rest start) b2
-    ∙ sym (tag-behind k1 s rest k2 (search rules))
+    ∙ sym (tag_behind k1 s rest k2 (search rules))
 
 pub tag-spec : {M : Type 1} → statement M
 tag-spec =

@@ -5,7 +5,7 @@ use native.Mathlib.Omega.{arith}
 use lib.Dec.{eqb}
 use lib.ListN.{length}
 use Rattle.gf128.specs.Bytes.{product}
-use Rattle.vectors.specs.Answers.{same?}
+use Rattle.vectors.specs.Answers.{is_same}
 use Rattle.vectors.proofs.Texts.{sized-field}
 use borrow.Author.Rules.{rules}
 use Rattle.gf128_vectors.proofs.agrees.Statement.{statement}
@@ -47,7 +47,7 @@ returns c =
     let found =
     multiplied.product.ensures
     ∙ ap₂ product (first.read-block.ensures ∙ first.before.field.ensures) (second.read-block2.ensures ∙ second.before.field2.ensures) in
-    ap₂ ◌&&◌ (ap (λ (k : ℕ). eqb k 0) told.number.ensures) (c.same.ensures ∙ ap₂ same? found c.before.field3.ensures)
+    ap₂ ◌&&◌ (ap (λ (k : ℕ). eqb k 0) told.number.ensures) (c.same.ensures ∙ ap₂ is_same found c.before.field3.ensures)
 
 pub agrees-spec : {M : Type 1} → statement M
 agrees-spec =

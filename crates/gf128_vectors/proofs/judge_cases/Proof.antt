@@ -2,7 +2,7 @@ use Prim.Native.Nat.{◌-◌}
 use lib.ListN.{length}
 use Rattle.vectors.specs.declared.Report.TheVariants.{Counts}
 use Rattle.vectors.specs.Answers.{counted}
-use Rattle.vectors.proofs.Counts.{Counted, counted_none, counted-more, counted-all}
+use Rattle.vectors.proofs.Counts.{Counted, counted_none, counted_more, counted_all}
 use Rattle.gf128_vectors.specs.Cases.{verdict}
 use borrow.Author.Rules.{rules}
 use Rattle.gf128_vectors.proofs.judge_cases.Statement.{statement}
@@ -42,10 +42,10 @@ loop-again : tie.Need-loop-preserved invariant-loop decreases-loop
 loop-again c =
     let judged = c.before.before in
     let turn = judged.before.before in
-    counted-more turn.before.loop.invariant turn.loop-test.true judged.judge.ensures c.before.counted.ensures c.after-case.ensures
+    counted_more turn.before.loop.invariant turn.loop-test.true judged.judge.ensures c.before.counted.ensures c.after-case.ensures
 
 returns : tie.Need-returns invariant-loop decreases-loop
-returns c = counted-all c.before.loop.invariant c.loop-test.false
+returns c = counted_all c.before.loop.invariant c.loop-test.false
 
 pub judge-cases-spec : {M : Type 1} → statement M
 judge-cases-spec =

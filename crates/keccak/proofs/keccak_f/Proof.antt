@@ -4,12 +4,12 @@ use native.Mathlib.Omega.{arith}
 use borrow.Author.Rules.{rules}
 use Rattle.keccak.specs.Complementing.{complemented}
 use Rattle.keccak_steps.proofs.Given.{wide}
-use Rattle.keccak.proofs.Complementing.{roundsFrom, two-more, all-rounds}
+use Rattle.keccak.proofs.Complementing.{rounds_from, two_more, all-rounds}
 use Rattle.keccak.proofs.keccak_f.Statement.{statement}
 use Rattle.keccak.proofs.keccak_f.Tie as tie
 
 abbrev invariant-loop : tie.invariant-loop
-invariant-loop constants s₀ i₀ s i = (i ≤ 12) × (s ≡ roundsFrom 0 (2 * i) s₀)
+invariant-loop constants s₀ i₀ s i = (i ≤ 12) × (s ≡ rounds_from 0 (2 * i) s₀)
 
 abbrev decreases-loop : tie.decreases-loop
 decreases-loop constants s₀ i₀ s i = 12 - i
@@ -33,7 +33,7 @@ loop-less : tie.Need-loop-smaller invariant-loop decreases-loop
 loop-less c = search rules
 
 loop-again : tie.Need-loop-preserved invariant-loop decreases-loop
-loop-again c = (search rules, two-more _ _ c.before.before.before.loop.invariant.1 c.two-rounds.ensures)
+loop-again c = (search rules, two_more _ _ c.before.before.before.loop.invariant.1 c.two-rounds.ensures)
 
 complemented-requires-2 : tie.Need-complemented-requires-2 invariant-loop decreases-loop
 complemented-requires-2 c κs = search rules
@@ -44,7 +44,7 @@ returns c =
     let start = c.before.before.before.before.before in
     let all : c.before.before.loop.i ≡ 12 = omega arith in
     let loop = rw all at c.before.before.loop.invariant.1 in
-    c.complemented2.ensures ∙ ap complemented (loop ∙ ap (roundsFrom 0 24) c.before.before.before.complemented.ensures)
+    c.complemented2.ensures ∙ ap complemented (loop ∙ ap (rounds_from 0 24) c.before.before.before.complemented.ensures)
     ∙ all-rounds start.args.a (wide start.args.a _ start.well-formed.0)
 
 pub keccak-f-spec : {M : Type 1} → statement M

@@ -1,9 +1,9 @@
 use mathlib.Core.Path.{ap, ◌∙◌}
 use borrow.Author.Rules.{rules}
 use Rattle.keccak_steps.specs.Steps.{State, rho, pi, iota}
-use Rattle.keccak_chi.specs.Complementing.{complementedChi}
+use Rattle.keccak_chi.specs.Complementing.{complemented_chi}
 use Rattle.keccak_steps.proofs.Given.{wide}
-use Rattle.keccak.proofs.Complementing.{round-steps}
+use Rattle.keccak.proofs.Complementing.{round_steps}
 use Rattle.keccak.proofs.round.Statement.{statement}
 use Rattle.keccak.proofs.round.Tie as tie
 
@@ -29,8 +29,8 @@ returns c =
     let a : State = start.args.a in
     c.iota.ensures
     ∙ ap (iota _)
-    (c.before.chi.ensures ∙ ap complementedChi (c.before.before.pi.ensures ∙ ap pi (c.before.before.before.rho.ensures ∙ ap rho at-theta.theta.ensures)))
-    ∙ round-steps _ a (wide a _ start.well-formed.0)
+    (c.before.chi.ensures ∙ ap complemented_chi (c.before.before.pi.ensures ∙ ap pi (c.before.before.before.rho.ensures ∙ ap rho at-theta.theta.ensures)))
+    ∙ round_steps _ a (wide a _ start.well-formed.0)
 
 pub round-spec : {M : Type 1} → statement M
 round-spec =

@@ -4,13 +4,13 @@ use native.Mathlib.Nat.{add-zero}
 use native.Mathlib.Numerals.{add-one}
 use native.Mathlib.Omega.{arith}
 use borrow.Author.Rules.{rules}
-use Rattle.keccak.specs.Complementing.{complementedRound}
-use Rattle.keccak.proofs.Complementing.{roundsFrom}
+use Rattle.keccak.specs.Complementing.{complemented_round}
+use Rattle.keccak.proofs.Complementing.{rounds_from}
 use Rattle.keccak.proofs.two_rounds.Statement.{statement}
 use Rattle.keccak.proofs.two_rounds.Tie as tie
 
 abbrev invariant-loop : tie.invariant-loop
-invariant-loop i constants s₀ j₀ s j = (j ≤ 2) × (s ≡ roundsFrom (2 * i) j s₀)
+invariant-loop i constants s₀ j₀ s j = (j ≤ 2) × (s ≡ rounds_from (2 * i) j s₀)
 
 abbrev decreases-loop : tie.decreases-loop
 decreases-loop i constants s₀ j₀ s j = 2 - j
@@ -34,7 +34,7 @@ loop-less : tie.Need-loop-smaller invariant-loop decreases-loop
 loop-less c = search rules
 
 loop-again : tie.Need-loop-preserved invariant-loop decreases-loop
-loop-again c = (search rules, rw add-one (c.round.ensures ∙ ap (complementedRound _) c.before.before.loop.invariant.1))
+loop-again c = (search rules, rw add-one (c.round.ensures ∙ ap (complemented_round _) c.before.before.loop.invariant.1))
 
 returns : tie.Need-returns invariant-loop decreases-loop
 returns c =

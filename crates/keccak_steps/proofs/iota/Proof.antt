@@ -3,8 +3,8 @@ use mathlib.Core.List.{List}
 use Prim.Native.Nat.{ℕ}
 use lib.ListN.{get_or}
 use borrow.Author.Rules.{rules}
-use Rattle.lists.proofs.Tables.{getD-table}
-use Rattle.keccak_steps.specs.Constants.{roundConstant}
+use Rattle.lists.proofs.Tables.{get_or-table}
+use Rattle.keccak_steps.specs.Constants.{round_constant}
 use Rattle.keccak_steps.proofs.iota.Statement.{statement}
 use Rattle.keccak_steps.proofs.iota.Tie as tie
 
@@ -29,8 +29,8 @@ index-2-b-2 c = search rules
 returns : tie.Need-returns
 returns c =
     let args = c.before.before.args in
-    let read : get_or args.constants.now args.ir 0 ≡ roundConstant args.ir =
-    ap (λ (l : List ℕ). get_or l args.ir 0) c.before.before.requires.1 ∙ getD-table 24 roundConstant args.ir 0 c.before.before.requires.0 in
+    let read : get_or args.constants.now args.ir 0 ≡ round_constant args.ir =
+    ap (λ (l : List ℕ). get_or l args.ir 0) c.before.before.requires.1 ∙ get_or-table 24 round_constant args.ir 0 c.before.before.requires.0 in
     rw read
 
 pub iota-spec : {M : Type 1} → statement M

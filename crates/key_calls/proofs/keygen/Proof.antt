@@ -5,21 +5,21 @@ use lib.ListN.{length}
 use borrow.Author.Tests.{not-true, not-false}
 use Rattle.answers.specs.declared.Refusal.TheVariants.{WrongLength}
 use Rattle.answers.specs.declared.Answer.{Answer}
-use Rattle.answers.specs.Answers.{unless, andThen, onDone}
+use Rattle.answers.specs.Answers.{unless, and_then, on_done}
 use mathlib.Core.List.{List, ◌++◌}
 use Prim.Native.Nat.{ℕ}
-use Rattle.encoding.specs.Codes.{ternaryBytes}
-use Rattle.records.specs.Layout.{publicKeyMark, secretKeyMark}
-use Rattle.records.specs.Records.{recordBytes}
-use Rattle.keys.specs.Keys.{generatedAnswer}
-use Rattle.calls.specs.Calls.{keygenAnswer, newPublicKey, newSecretKey, keygenPublic, keygenSecret}
+use Rattle.encoding.specs.Codes.{ternary_bytes}
+use Rattle.records.specs.Layout.{public_key_mark, secret_key_mark}
+use Rattle.records.specs.Records.{record_bytes}
+use Rattle.keys.specs.Keys.{generated_answer}
+use Rattle.calls.specs.Calls.{keygen_answer, new_public_key, new_secret_key, keygen_public, keygen_secret}
 use Rattle.calls.proofs.Lengths.{keygen-fits}
 use borrow.Author.Rules.{rules}
 use Rattle.key_calls.proofs.keygen.Statement.{statement}
 use Rattle.key_calls.proofs.keygen.Tie as tie
 
 returns : tie.Need-returns
-unfolding keygenAnswer keygenPublic keygenSecret
+unfolding keygen_answer keygen_public keygen_secret
 returns c =
     let args = c.before.before.before.before.before.before.args in
     let stream = args.stream.now in
@@ -29,11 +29,11 @@ returns c =
     let secret = args.secret.now in
     let misfit : eqb (length stream) 2688 && eqb (length s) 512 && eqb (length e) 512 && eqb (length public) 4101 && eqb (length secret) 4357 ≡ false =
     not-true _ c.if1.true in
-    let answer = sym (ap (λ (b : Bool). unless b WrongLength (generatedAnswer stream s e)) misfit) in (
+    let answer = sym (ap (λ (b : Bool). unless b WrongLength (generated_answer stream s e)) misfit) in (
       answer,
       (
-        ap (λ (a : Answer). onDone a (newPublicKey stream s e) public) answer,
-        ap (λ (a : Answer). onDone a (newSecretKey stream s e) secret) answer,
+        ap (λ (a : Answer). on_done a (new_public_key stream s e) public) answer,
+        ap (λ (a : Answer). on_done a (new_secret_key stream s e) secret) answer,
       ),
     )
 
@@ -59,7 +59,7 @@ same-length-2 : tie.Need-same-length-2
 same-length-2 c = search rules
 
 returns-2 : tie.Need-returns-2
-unfolding keygenAnswer newPublicKey newSecretKey keygenPublic keygenSecret
+unfolding keygen_answer new_public_key new_secret_key keygen_public keygen_secret
 returns-2 c =
     let made = c.before.before.before.before.before.before.before.before.before.before.before in
     let left = made.before in
@@ -72,13 +72,13 @@ returns-2 c =
     let fits : eqb (length stream) 2688 && eqb (length s) 512 && eqb (length e) 512 && eqb (length public) 4101 && eqb (length secret) 4357 ≡ true =
     not-false _ left.if1.false in
     let (checked, ((a, b), t)) = made.generate.ensures in
-    let answer = checked ∙ sym (ap (λ (x : Bool). unless x WrongLength (generatedAnswer stream s e)) fits) in (
+    let answer = checked ∙ sym (ap (λ (x : Bool). unless x WrongLength (generated_answer stream s e)) fits) in (
       answer,
       (
         c.before.before.before.before.before.before.write-public-key.ensures
-            ∙ ap₂ (λ (x : Answer) (l : List ℕ). onDone x l public) answer (ap₂ (recordBytes publicKeyMark 1) a b),
+            ∙ ap₂ (λ (x : Answer) (l : List ℕ). on_done x l public) answer (ap₂ (record_bytes public_key_mark 1) a b),
         c.before.before.write-secret-key.ensures
-            ∙ ap₂ (λ (x : Answer) (l : List ℕ). onDone x l secret) answer (ap₂ (λ (x y : List ℕ). x ++ y) (ap₂ (recordBytes secretKeyMark 1) a b) (ap ternaryBytes t)),
+            ∙ ap₂ (λ (x : Answer) (l : List ℕ). on_done x l secret) answer (ap₂ (λ (x y : List ℕ). x ++ y) (ap₂ (record_bytes secret_key_mark 1) a b) (ap ternary_bytes t)),
       ),
     )
 

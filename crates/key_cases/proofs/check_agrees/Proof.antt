@@ -1,6 +1,6 @@
 use mathlib.Core.Path.{ap, ◌∙◌}
-use Rattle.calls.specs.Calls.{checkAnswer}
-use Rattle.case_outputs.specs.Outputs.{answerTold?}
+use Rattle.calls.specs.Calls.{check_answer}
+use Rattle.case_outputs.specs.Outputs.{answer_told}
 use Rattle.lists.proofs.Equal.{ap₃}
 use borrow.Author.Rules.{rules}
 use Rattle.key_cases.proofs.check_agrees.Statement.{statement}
@@ -26,8 +26,8 @@ returns c =
     let words = c.before in
     let told = words.before in
     let checked = told.before in
-    let answer-is = checked.check-secret-key.ensures.0 ∙ ap checkAnswer checked.before.field.ensures in
-    c.is-told.ensures ∙ ap₃ answerTold? answer-is told.number.ensures words.field2.ensures
+    let answer-is = checked.check-secret-key.ensures.0 ∙ ap check_answer checked.before.field.ensures in
+    c.is-told.ensures ∙ ap₃ answer_told answer-is told.number.ensures words.field2.ensures
 
 pub check-agrees-spec : {M : Type 1} → statement M
 check-agrees-spec =

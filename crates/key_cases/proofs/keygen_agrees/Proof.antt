@@ -2,7 +2,7 @@ use mathlib.Core.Path.{refl, ◌∙◌}
 use mathlib.Core.List.{List}
 use Prim.Native.Nat.{ℕ}
 use lib.ListN.{length}
-use Rattle.key_cases.specs.KeyCases.{generationAnswer, generationPublic, generationSecret, keysAgree?, publicAfter, secretAfter, keygenAgrees?}
+use Rattle.key_cases.specs.KeyCases.{generation_answer, generation_public, generation_secret, keys_agree, public_after, secret_after, keygen_agrees}
 use Rattle.lists.proofs.Equal.{ap₄, ap₅}
 use borrow.Author.Rules.{rules}
 use Rattle.key_cases.proofs.keygen_agrees.Statement.{statement}
@@ -36,7 +36,7 @@ same-length-2 : tie.Need-same-length-2
 same-length-2 c = search rules
 
 returns : tie.Need-returns
-unfolding keygenAgrees? publicAfter secretAfter
+unfolding keygen_agrees public_after secret_after
 returns c =
     let made = c.before.before.before.before.before.before.before in
     let inputs = made.before.before.before in
@@ -48,10 +48,10 @@ returns c =
     let public = filled.before.before.before.before.fill.ensures in
     let secret = filled.fill2.ensures in
     let answer-is =
-    made.generate.ensures.0 ∙ ap₅ (λ (x y z public secret : List ℕ). generationAnswer source x y z (length public) (length secret)) x y z public secret in
-    let public-is = made.generate.ensures.1.0 ∙ ap₅ (generationPublic source) x y z public secret in
-    let secret-is = made.generate.ensures.1.1 ∙ ap₅ (generationSecret source) x y z public secret in
-    (c.keys-agree.ensures ∙ ap₄ keysAgree? refl answer-is public-is secret-is, (public-is, secret-is))
+    made.generate.ensures.0 ∙ ap₅ (λ (x y z public secret : List ℕ). generation_answer source x y z (length public) (length secret)) x y z public secret in
+    let public-is = made.generate.ensures.1.0 ∙ ap₅ (generation_public source) x y z public secret in
+    let secret-is = made.generate.ensures.1.1 ∙ ap₅ (generation_secret source) x y z public secret in
+    (c.keys-agree.ensures ∙ ap₄ keys_agree refl answer-is public-is secret-is, (public-is, secret-is))
 
 pub keygen-agrees-spec : {M : Type 1} → statement M
 keygen-agrees-spec =

@@ -1,5 +1,5 @@
 use mathlib.Core.Path.{ap₂, ◌∙◌}
-use Rattle.key_cases.specs.KeyCases.{keygenAgrees?}
+use Rattle.key_cases.specs.KeyCases.{keygen_agrees}
 use Rattle.case_outputs.proofs.Outputs.{filled-output}
 use borrow.Author.Rules.{rules}
 use Rattle.key_cases.proofs.keygen_case_agrees.Statement.{statement}
@@ -47,7 +47,7 @@ returns c =
     let args = secrets.before.before.before.args in
     let text = args.text.now in
     judged.keygen-agrees.ensures.0
-    ∙ ap₂ (keygenAgrees? args.source text)
+    ∙ ap₂ (keygen_agrees args.source text)
     (filled-output 3 text first.room.ensures.0 secrets.before.output-buffer.ensures)
     (filled-output 4 text second.room2.ensures.0 secrets.output-buffer2.ensures)
 

@@ -1,6 +1,6 @@
 use mathlib.Core.Path.{refl, ap₂, ◌∙◌}
 use mathlib.Core.Bool.{◌&&◌}
-use Rattle.case_outputs.specs.Outputs.{answerAgrees?}
+use Rattle.case_outputs.specs.Outputs.{answer_agrees}
 use Rattle.lists.proofs.Equal.{ap₅}
 use borrow.Author.Rules.{rules}
 use Rattle.key_cases.proofs.keys_agree.Statement.{statement}
@@ -31,8 +31,8 @@ returns c =
     let told = located.before.number.ensures in
     let words = located.field.ensures in
     ap₂ ◌&&◌
-    (public.answer-agrees.ensures ∙ ap₅ answerAgrees? refl told words public.before.field2.ensures refl)
-    (c.answer-agrees2.ensures ∙ ap₅ answerAgrees? refl told words c.before.field3.ensures refl)
+    (public.answer-agrees.ensures ∙ ap₅ answer_agrees refl told words public.before.field2.ensures refl)
+    (c.answer-agrees2.ensures ∙ ap₅ answer_agrees refl told words c.before.field3.ensures refl)
 
 pub keys-agree-spec : {M : Type 1} → statement M
 keys-agree-spec =

@@ -7,28 +7,28 @@ use Rattle.lists.proofs.Both.{both}
 use Rattle.ntt.proofs.Factors.{forward-size, backward-size}
 use Rattle.answers.specs.declared.Refusal.TheVariants.{WrongLength}
 use Rattle.answers.specs.declared.Answer.{Answer}
-use Rattle.answers.specs.Answers.{number, unless, onDone}
-use Rattle.records.specs.Layout.{headerLength, expandedKeyVersion, secretKeyLength}
-use Rattle.records.specs.Records.{compactBytes}
-use Rattle.secret_keys.specs.SecretKeys.{versionAnswer}
-use Rattle.answers.proofs.AnswerLaws.{on-done}
-use Rattle.conversion_calls.specs.Calls.{compactAnswer, compactOut}
-use Rattle.conversion_calls.proofs.Promised.{compact-promise}
-use Rattle.key_conversion.proofs.Laws.{long-enough}
+use Rattle.answers.specs.Answers.{number, unless, on_done}
+use Rattle.records.specs.Layout.{header_length, expanded_key_version, secret_key_length}
+use Rattle.records.specs.Records.{compact_bytes}
+use Rattle.secret_keys.specs.SecretKeys.{version_answer}
+use Rattle.answers.proofs.AnswerLaws.{on_done_lem}
+use Rattle.conversion_calls.specs.Calls.{compact_answer, compact_out}
+use Rattle.conversion_calls.proofs.Promised.{compact_promise}
+use Rattle.key_conversion.proofs.Laws.{long_enough}
 use borrow.Author.Rules.{rules}
 use Rattle.key_conversion.proofs.compact_secret_key.Statement.{statement}
 use Rattle.key_conversion.proofs.compact_secret_key.Tie as tie
 
 returns : tie.Need-returns
-unfolding compactAnswer compactOut
+unfolding compact_answer compact_out
 returns c =
     let args = c.before.before.before.args in
     let k = args.key.now in
     let old = args.out.now in
-    let misfit : leb headerLength (length k) && eqb (length old) secretKeyLength ≡ false = not-true _ c.if1.true in
-    let answer = sym (ap (λ (b : Bool). unless b WrongLength (versionAnswer expandedKeyVersion k)) misfit) in
-    let kept = ap (λ (a : Answer). onDone a (compactBytes k) old) answer in
-    (answer, (kept, compact-promise k old (ap number answer) kept))
+    let misfit : leb header_length (length k) && eqb (length old) secret_key_length ≡ false = not-true _ c.if1.true in
+    let answer = sym (ap (λ (b : Bool). unless b WrongLength (version_answer expanded_key_version k)) misfit) in
+    let kept = ap (λ (a : Answer). on_done a (compact_bytes k) old) answer in
+    (answer, (kept, compact_promise k old (ap number answer) kept))
 
 forward-factors-requires : tie.Need-forward-factors-requires
 forward-factors-requires c κs = search rules
@@ -55,8 +55,8 @@ write-compact-requires c κs =
     let args = left.before.before.before.args in
     let k = args.key.now in
     let room = length args.out.now in
-    let (_, fits) = both (leb headerLength (length k)) (eqb room secretKeyLength) (not-false _ left.if1.false) in
-    (long-enough true k (sym checked.check-version.ensures.0 ∙ c.before.enum_told.given.1), eqb-true room secretKeyLength fits)
+    let (_, fits) = both (leb header_length (length k)) (eqb room secret_key_length) (not-false _ left.if1.false) in
+    (long_enough true k (sym checked.check-version.ensures.0 ∙ c.before.enum_told.given.1), eqb-true room secret_key_length fits)
 
 enum-told-2 : tie.Need-enum-told-2
 enum-told-2 c = search rules
@@ -65,7 +65,7 @@ same_length : tie.Need-same-length
 same_length c = search rules
 
 returns-2 : tie.Need-returns-2
-unfolding compactAnswer compactOut
+unfolding compact_answer compact_out
 returns-2 c =
     let told = c.before.before.before.before in
     let checked = told.before.before in
@@ -73,23 +73,23 @@ returns-2 c =
     let args = left.before.before.before.args in
     let k = args.key.now in
     let old = args.out.now in
-    let fits : leb headerLength (length k) && eqb (length old) secretKeyLength ≡ true = not-false _ left.if1.false in
-    let answer = checked.check-version.ensures.0 ∙ sym (ap (λ (b : Bool). unless b WrongLength (versionAnswer expandedKeyVersion k)) fits) in
-    let written = c.before.before.write-compact.ensures ∙ sym (on-done _ old (sym answer ∙ told.enum_told.given.1)) in
-    (answer, (written, compact-promise k old (ap number answer) written))
+    let fits : leb header_length (length k) && eqb (length old) secret_key_length ≡ true = not-false _ left.if1.false in
+    let answer = checked.check-version.ensures.0 ∙ sym (ap (λ (b : Bool). unless b WrongLength (version_answer expanded_key_version k)) fits) in
+    let written = c.before.before.write-compact.ensures ∙ sym (on_done_lem _ old (sym answer ∙ told.enum_told.given.1)) in
+    (answer, (written, compact_promise k old (ap number answer) written))
 
 returns-3 : tie.Need-returns-3
-unfolding compactAnswer compactOut
+unfolding compact_answer compact_out
 returns-3 c =
     let checked = c.before.before in
     let left = checked.before.before.before.before.before.before.before in
     let args = left.before.before.before.args in
     let k = args.key.now in
     let old = args.out.now in
-    let fits : leb headerLength (length k) && eqb (length old) secretKeyLength ≡ true = not-false _ left.if1.false in
-    let answer = checked.check-version.ensures.0 ∙ sym (ap (λ (b : Bool). unless b WrongLength (versionAnswer expandedKeyVersion k)) fits) in
-    let kept = ap (λ (a : Answer). onDone a (compactBytes k) old) (sym c.enum-told2.given.1 ∙ answer) in
-    (answer, (kept, compact-promise k old (ap number answer) kept))
+    let fits : leb header_length (length k) && eqb (length old) secret_key_length ≡ true = not-false _ left.if1.false in
+    let answer = checked.check-version.ensures.0 ∙ sym (ap (λ (b : Bool). unless b WrongLength (version_answer expanded_key_version k)) fits) in
+    let kept = ap (λ (a : Answer). on_done a (compact_bytes k) old) (sym c.enum-told2.given.1 ∙ answer) in
+    (answer, (kept, compact_promise k old (ap number answer) kept))
 
 pub compact-secret-key-spec : {M : Type 1} → statement M
 compact-secret-key-spec =

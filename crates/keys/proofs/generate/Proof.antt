@@ -3,12 +3,12 @@ use mathlib.Core.Bool.{Bool, decide}
 use mathlib.Core.List.{List}
 use Prim.Native.Nat.{ℕ}
 use lib.Dec.{eqb}
-use Rattle.ring.specs.Invertible.{invertible?}
-use Rattle.scheme.specs.Scheme.{keyElement}
+use Rattle.ring.specs.Invertible.{is_invertible}
+use Rattle.scheme.specs.Scheme.{key_element}
 use Rattle.answers.specs.declared.Refusal.TheVariants.{NotInvertible, StreamExhausted}
 use Rattle.answers.specs.declared.Answer.TheVariants.{Done}
-use Rattle.answers.specs.Answers.{unless, andThen}
-use Rattle.keys.specs.Keys.{keygenB, generatedAnswer}
+use Rattle.answers.specs.Answers.{unless, and_then}
+use Rattle.keys.specs.Keys.{keygen_b, generated_answer}
 use Rattle.ntt.proofs.Factors.{forward-size, backward-size}
 use Rattle.lists.proofs.Equal.{ap₃}
 use borrow.Author.Rules.{rules}
@@ -49,18 +49,18 @@ and-then-requires : tie.Need-and-then-requires
 and-then-requires c κs = search rules
 
 returns : tie.Need-returns
-unfolding keygenB generatedAnswer
+unfolding keygen_b generated_answer
 returns c =
     let made = c.before.before.before in
     let noise = made.before.before.before in
     let read = noise.before.before.before.before.before in
     let a = read.uniform.ensures.1 in
     let s = noise.before.ternary.ensures in
-    let b = made.generate.ensures.0 ∙ ap₃ keyElement a s noise.ternary2.ensures in
+    let b = made.generate.ensures.0 ∙ ap₃ key_element a s noise.ternary2.ensures in
     let enough = noise.before.before.before.unless.ensures ∙ ap (λ (i : ℕ). unless (eqb i 1024) StreamExhausted Done) read.uniform.ensures.0 in
     let invertible = c.before.before.unless2.ensures
-    ∙ ap (λ (x : Bool). unless x NotInvertible Done) (made.generate.ensures.1 ∙ ap (λ (x : List ℕ). decide (invertible? x)) (sym made.generate.ensures.0 ∙ b)) in
-    (c.and_then.ensures ∙ ap₂ andThen enough invertible, ((a, b), s))
+    ∙ ap (λ (x : Bool). unless x NotInvertible Done) (made.generate.ensures.1 ∙ ap (λ (x : List ℕ). decide (is_invertible x)) (sym made.generate.ensures.0 ∙ b)) in
+    (c.and_then.ensures ∙ ap₂ and_then enough invertible, ((a, b), s))
 
 pub generate-spec : {M : Type 1} → statement M
 generate-spec =

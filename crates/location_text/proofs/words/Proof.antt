@@ -5,8 +5,8 @@ use native.Mathlib.Omega.{arith}
 use lib.ListN.{length}
 use Rattle.lists.specs.Table.{zeros}
 use Rattle.text.specs.Text.{written, decimal}
-use Rattle.text.proofs.Texts.{put-none, put-more}
-use Rattle.location_text.specs.Words.{recordName, partName, textLength}
+use Rattle.text.proofs.Texts.{put_none, put_more}
+use Rattle.location_text.specs.Words.{record_name, part_name, text_length}
 use Rattle.location_text.proofs.WordLaws.{words-put, no_words}
 use borrow.Author.Rules.{rules}
 use Rattle.location_text.proofs.words.Statement.{statement}
@@ -15,7 +15,7 @@ use Rattle.location_text.proofs.words.Tie as tie
 returns : tie.Need-returns
 returns c =
     let none = sym (no_words c.before.before.args.l c.if1.true) in
-    (ap (λ (w : List ℕ). written w (zeros textLength)) none, (ap length none, omega arith))
+    (ap (λ (w : List ℕ). written w (zeros text_length)) none, (ap length none, omega arith))
 
 slice-aggregate-put-record : tie.Need-slice-aggregate-put-record
 slice-aggregate-put-record c = search rules
@@ -62,11 +62,11 @@ returns-2 c =
     let front = space.before.before.before.before in
     let tested = front.before.before in
     let l = tested.before.before.args.l in
-    let kind = put-more (recordName l.kind) (put-none (zeros textLength)) front.put_record.ensures.0 front.put_record.ensures.1 in
-    let apart = put-more (32 ∷ []) kind space.put.ensures.0 space.put.ensures.1 in
-    let inside = put-more (partName l.part) apart part.put-part.ensures.0 part.put-part.ensures.1 in
-    let before = put-more (32 ∷ []) inside behind.put2.ensures.0 behind.put2.ensures.1 in
-    let all = put-more (decimal l.index) before digits.put-decimal.ensures.0 digits.put-decimal.ensures.1 in
+    let kind = put_more (record_name l.kind) (put_none (zeros text_length)) front.put_record.ensures.0 front.put_record.ensures.1 in
+    let apart = put_more (32 ∷ []) kind space.put.ensures.0 space.put.ensures.1 in
+    let inside = put_more (part_name l.part) apart part.put-part.ensures.0 part.put-part.ensures.1 in
+    let before = put_more (32 ∷ []) inside behind.put2.ensures.0 behind.put2.ensures.1 in
+    let all = put_more (decimal l.index) before digits.put-decimal.ensures.0 digits.put-decimal.ensures.1 in
     words-put l tested.if1.false all
 
 pub words-spec : {M : Type 1} → statement M

@@ -1,6 +1,6 @@
 use mathlib.Core.Path.{sym, ◌∙◌}
-use Rattle.make_key_output.specs.MakeKey.{standardError}
-use Rattle.make_key_output.proofs.Printing.{output-done, output-refused}
+use Rattle.make_key_output.specs.MakeKey.{standard_error}
+use Rattle.make_key_output.proofs.Printing.{output-done, output_refused}
 use borrow.Author.Rules.{rules}
 use Rattle.make_key_output.proofs.make_key.Statement.{statement}
 use Rattle.make_key_output.proofs.make_key.Tie as tie
@@ -24,7 +24,7 @@ same-length-2 : tie.Need-same-length-2
 same-length-2 c = search rules
 
 returns : tie.Need-returns
-unfolding standardError
+unfolding standard_error
 returns c =
     let lined = c.before.before.before in
     let made = lined.before.before.before.before.before in
@@ -34,11 +34,11 @@ returns c =
     let told = c.before.enum_told.given.1 in
     let (public-size, secret-size) = start.requires in
     let output = output-done input start.args.public.now (sym answered ∙ told) (rw told at public) (rw told at secret) public-size
-    (made.keys_of.auto.1.1.0 ∙ secret-size) c.public-length.ensures in (
+    (made.keys_of.auto.1.1.0 ∙ secret-size) c.public_length.ensures in (
       rw answered at public,
       (
         rw answered at secret,
-        (output.public-length, (output.secret-length, (output.bytes, rw answered at lined.line.ensures))),
+        (output.public_length, (output.secret_length, (output.bytes, rw answered at lined.line.ensures))),
       ),
     )
 
@@ -52,17 +52,17 @@ same-length-4 : tie.Need-same-length-4
 same-length-4 c = search rules
 
 returns-2 : tie.Need-returns-2
-unfolding standardError
+unfolding standard_error
 returns-2 c =
     let made = c.before.before.before.before.before.before.before in
     let start = made.before.before.before.before.before.before in
     let input = start.args.input.now in
     let (answered, (public, secret)) = made.keys_of.ensures in
-    let output = output-refused input made.keys_of.new.1.0 made.keys_of.new.1.1.0 (sym answered ∙ c.enum-told2.given.1) in (
+    let output = output_refused input made.keys_of.new.1.0 made.keys_of.new.1.1.0 (sym answered ∙ c.enum-told2.given.1) in (
       rw answered at public,
       (
         rw answered at secret,
-        (output.public-length, (output.secret-length, (output.bytes, rw answered at c.before.before.line.ensures))),
+        (output.public_length, (output.secret_length, (output.bytes, rw answered at c.before.before.line.ensures))),
       ),
     )
 

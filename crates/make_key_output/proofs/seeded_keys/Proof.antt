@@ -1,4 +1,4 @@
-use Rattle.make_key_output.proofs.Keys.{of-seed}
+use Rattle.make_key_output.proofs.Keys.{of_seed}
 use borrow.Author.Rules.{rules}
 use Rattle.make_key_output.proofs.seeded_keys.Statement.{statement}
 use Rattle.make_key_output.proofs.seeded_keys.Tie as tie
@@ -54,7 +54,7 @@ returns c =
     let start = called.before.before.before.before.before.before.before.before.before in
     let (size, (public-size, secret-size)) = start.requires in
     let (answered, (public, secret)) = called.keygen-from-seed.ensures in
-    of-seed start.args.input.now size start.args.public.now start.args.secret.now public-size secret-size answered public secret
+    of_seed start.args.input.now size start.args.public.now start.args.secret.now public-size secret-size answered public secret
 
 pub seeded-keys-spec : {M : Type 1} → statement M
 seeded-keys-spec =

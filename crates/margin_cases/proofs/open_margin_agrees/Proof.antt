@@ -2,10 +2,10 @@ use mathlib.Core.Path.{refl, ◌∙◌}
 use mathlib.Core.List.{List}
 use Prim.Native.Nat.{ℕ}
 use lib.ListN.{length}
-use Rattle.calls.specs.Calls.{openAnswer, openOut}
-use Rattle.margin_calls.specs.Calls.{openMarginOut}
+use Rattle.calls.specs.Calls.{open_answer, open_out}
+use Rattle.margin_calls.specs.Calls.{open_margin_out}
 use Rattle.lists.proofs.Equal.{ap₄}
-use Rattle.margin_cases.specs.MarginCases.{openedAgrees?, openMarginAfter, openMarginAgrees?}
+use Rattle.margin_cases.specs.MarginCases.{opened_agrees, open_margin_after, open_margin_agrees}
 use borrow.Author.Rules.{rules}
 use Rattle.margin_cases.proofs.open_margin_agrees.Statement.{statement}
 use Rattle.margin_cases.proofs.open_margin_agrees.Tie as tie
@@ -32,7 +32,7 @@ same_length : tie.Need-same-length
 same_length c = search rules
 
 returns : tie.Need-returns
-unfolding openMarginAgrees? openMarginAfter
+unfolding open_margin_agrees open_margin_after
 returns c =
     let ran = c.before.before.before.before in
     let inputs = ran.before.before in
@@ -41,10 +41,10 @@ returns c =
     let z = inputs.field3.ensures in
     let out = inputs.before.before.before.before.before.fill.ensures in
     let did = ran.open-with-margin.ensures in
-    let answer-is = did.0 ∙ ap₄ (λ (x y z out : List ℕ). openAnswer x y z (length out)) x y z out in
-    let out-is = did.1.0 ∙ ap₄ openOut x y z out in
-    let margin-is = did.1.1.0 ∙ ap₄ (λ (x y z out : List ℕ). openMarginOut x y z (length out) 0) x y z out in
-    (c.opened-agrees.ensures ∙ ap₄ openedAgrees? refl answer-is margin-is out-is, out-is)
+    let answer-is = did.0 ∙ ap₄ (λ (x y z out : List ℕ). open_answer x y z (length out)) x y z out in
+    let out-is = did.1.0 ∙ ap₄ open_out x y z out in
+    let margin-is = did.1.1.0 ∙ ap₄ (λ (x y z out : List ℕ). open_margin_out x y z (length out) 0) x y z out in
+    (c.opened-agrees.ensures ∙ ap₄ opened_agrees refl answer-is margin-is out-is, out-is)
 
 pub open-margin-agrees-spec : {M : Type 1} → statement M
 open-margin-agrees-spec =

@@ -1,6 +1,6 @@
 use mathlib.Core.Path.{ap, ◌∙◌}
 use Rattle.case_outputs.proofs.Outputs.{filled-output}
-use Rattle.margin_cases.specs.MarginCases.{openMarginAgrees?}
+use Rattle.margin_cases.specs.MarginCases.{open_margin_agrees}
 use borrow.Author.Rules.{rules}
 use Rattle.margin_cases.proofs.open_margin_case_agrees.Statement.{statement}
 use Rattle.margin_cases.proofs.open_margin_case_agrees.Tie as tie
@@ -28,7 +28,7 @@ returns c =
     let sized = c.before.before.before in
     let text = sized.before.before.before.args.text.now in
     c.before.open-margin-agrees.ensures.0
-    ∙ ap (openMarginAgrees? text) (filled-output 3 text sized.room.ensures.0 sized.before.output-buffer.ensures)
+    ∙ ap (open_margin_agrees text) (filled-output 3 text sized.room.ensures.0 sized.before.output-buffer.ensures)
 
 pub open-margin-case-agrees-spec : {M : Type 1} → statement M
 open-margin-case-agrees-spec =

@@ -3,8 +3,8 @@ use mathlib.Core.Bool.{◌&&◌}
 use mathlib.Core.List.{List}
 use Prim.Native.Nat.{ℕ}
 use Rattle.lists.proofs.Equal.{ap₃}
-use Rattle.case_outputs.specs.Outputs.{answerAgrees?}
-use Rattle.margin_cases.specs.MarginCases.{openedAgrees?}
+use Rattle.case_outputs.specs.Outputs.{answer_agrees}
+use Rattle.margin_cases.specs.MarginCases.{opened_agrees}
 use borrow.Author.Rules.{rules}
 use Rattle.margin_cases.proofs.opened_agrees.Statement.{statement}
 use Rattle.margin_cases.proofs.opened_agrees.Tie as tie
@@ -25,7 +25,7 @@ margin-agrees-requires : tie.Need-margin-agrees-requires
 margin-agrees-requires c κs = search rules
 
 returns : tie.Need-returns
-unfolding openedAgrees?
+unfolding opened_agrees
 returns c =
     let compared = c.before in
     let bytes = compared.before in
@@ -33,7 +33,7 @@ returns c =
     let args = words.before.before.before.before.args in
     ap₂ ◌&&◌
     (compared.answer-agrees.ensures
-    ∙ ap₃ (λ (told : ℕ) (w b : List ℕ). answerAgrees? args.opened.answer told w b args.after.now) words.before.number.ensures words.field.ensures bytes.field2.ensures)
+    ∙ ap₃ (λ (told : ℕ) (w b : List ℕ). answer_agrees args.opened.answer told w b args.after.now) words.before.number.ensures words.field.ensures bytes.field2.ensures)
     c.margin-agrees.ensures
 
 pub opened-agrees-spec : {M : Type 1} → statement M

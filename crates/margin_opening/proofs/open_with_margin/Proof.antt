@@ -1,8 +1,8 @@
 use mathlib.Core.Path.{ap, ◌∙◌}
 use Prim.Native.Nat.{ℕ}
 use lib.ListN.{length}
-use Rattle.answers.specs.Answers.{number, onDone}
-use Rattle.margin_calls.proofs.Promised.{margin-promise}
+use Rattle.answers.specs.Answers.{number, on_done}
+use Rattle.margin_calls.proofs.Promised.{margin_promise}
 use Rattle.margin_opening.proofs.Laws.{margin-shown}
 use borrow.Author.Rules.{rules}
 use Rattle.margin_opening.proofs.open_with_margin.Statement.{statement}
@@ -32,11 +32,11 @@ returns c =
     let sealed = args.sealed.now in
     let noise = args.noise.now in
     let old = args.out.now in
-    let (answer, (quotients, out)) = made.open-entry.ensures in
-    let said = made.open-entry.result.answer in
+    let (answer, (quotients, out)) = made.open_entry.ensures in
+    let said = made.open_entry.result.answer in
     let margin =
-    c.shown.ensures ∙ ap (λ (m : ℕ). onDone said m 0) largest.largest_size.ensures ∙ margin-shown k sealed noise (length old) 0 answer quotients in
-    (answer, (out, (margin, margin-promise k sealed noise old 0 (ap number answer) out margin)))
+    c.shown.ensures ∙ ap (λ (m : ℕ). on_done said m 0) largest.largest_size.ensures ∙ margin-shown k sealed noise (length old) 0 answer quotients in
+    (answer, (out, (margin, margin_promise k sealed noise old 0 (ap number answer) out margin)))
 
 pub open-with-margin-spec : {M : Type 1} → statement M
 open-with-margin-spec =

@@ -7,7 +7,7 @@ use lib.ListN.{length, get_or}
 use mir.Syntax.{w16}
 use Rattle.ring.specs.Ring.{n}
 use Rattle.ring.proofs.SignedValues.{read_back}
-use Rattle.margins.proofs.LargestLaws.{LargestOf, largest-none, largest-more, largest-all}
+use Rattle.margins.proofs.LargestLaws.{LargestOf, largest_none, largest_more, largest_all}
 use borrow.Author.Rules.{rules}
 use Rattle.margins.proofs.largest_size.Statement.{statement}
 use Rattle.margins.proofs.largest_size.Tie as tie
@@ -19,7 +19,7 @@ abbrev decreases-loop : tie.decreases-loop
 decreases-loop w largest₀ k₀ largest k = n - k
 
 loop-holds : tie.Need-loop-init invariant-loop decreases-loop
-loop-holds c = largest-none _
+loop-holds c = largest_none _
 
 mul-size : tie.Need-overflow-mul-size invariant-loop decreases-loop
 mul-size c = search rules
@@ -45,7 +45,7 @@ loop-again c =
     let inside : at.loop.k < length w = omega (arith, length-w, made.before.before.loop-test.true) in
     let x = get_or w at.loop.k (pos 0) in
     let s : made.size.result ≡ nat_abs x = made.size.ensures ∙ ap nat_abs (read_back w16 x made.before.size-arg.given) in
-    largest-more at.loop.invariant inside (
+    largest_more at.loop.invariant inside (
     ⊎_elim
     (λ t. omega (arith, t.1, t.0.taken, s))
     (λ t. omega (arith, t.1, t.0.left, s))
@@ -55,7 +55,7 @@ returns : tie.Need-returns invariant-loop decreases-loop
 returns c =
     let at = c.before in
     let length-w : length at.before.args.t1 ≡ n = search rules in
-    largest-all at.loop.invariant (omega (arith, length-w, c.loop-test.false))
+    largest_all at.loop.invariant (omega (arith, length-w, c.loop-test.false))
 
 pub largest-size-spec : {M : Type 1} → statement M
 largest-size-spec =

@@ -4,7 +4,7 @@ use native.Mathlib.Omega.{arith}
 use borrow.Author.Rules.{rules}
 use borrow.Fn.Kinds.{In}
 use borrow.Fn.PlainCycle.{Measures, is, falls, and}
-use Rattle.modq.proofs.Reciprocals.{reciprocal-small-residue, reciprocal-step}
+use Rattle.modq.proofs.Reciprocals.{reciprocal-small-residue, reciprocal_step}
 use Rattle.modq.proofs.reciprocal.Reads as reciprocal
 use Rattle.modq.proofs.reciprocal.Kinds as reciprocal-kinds
 use Rattle.modq.proofs.+reciprocal.Lts-reciprocal as reciprocal-lts
@@ -81,7 +81,7 @@ reciprocal-returns-2 : (t : ℕ) → reciprocal-lts.Need-returns-2 (
   mul-reads.Learnt,
 ) (reciprocal-at t) reciprocal.Post
 reciprocal-returns-2 t c =
-    reciprocal-step c.before.before.before.args.x _ _ c.before.before.if1.false c.before.reciprocal.ensures c.mul.ensures
+    reciprocal_step c.before.before.before.args.x _ _ c.before.before.if1.false c.before.reciprocal.ensures c.mul.ensures
 
 pub +reciprocal-spec : {M : Type 1} → statement M
 +reciprocal-spec = close μ-reciprocal λ t. reciprocal-lts.spec (

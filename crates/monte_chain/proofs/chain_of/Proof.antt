@@ -1,4 +1,4 @@
-use Rattle.monte_chain.specs.Monte.{chainOf}
+use Rattle.monte_chain.specs.Monte.{chain_of}
 use borrow.Author.Rules.{rules}
 use Rattle.monte_chain.proofs.chain_of.Statement.{statement}
 use Rattle.monte_chain.proofs.chain_of.Tie as tie
@@ -22,7 +22,7 @@ join-requires : tie.Need-join-requires
 join-requires c κs = search rules
 
 returns : tie.Need-returns
-unfolding chainOf
+unfolding chain_of
 returns c = rw (c.before.before.before.next-message.ensures, c.join.ensures)
 
 pub chain-of-spec : {M : Type 1} → statement M

@@ -3,21 +3,21 @@ use Prim.Native.Nat.{◌-◌, ◌<◌}
 use native.Mathlib.Omega.{arith}
 use lib.ListN.{get_or}
 use Rattle.lists.proofs.Fill.{Filled, filled_none, filled_more, filled-all}
-use Rattle.monte_chain.specs.Monte.{messageOf}
+use Rattle.monte_chain.specs.Monte.{message_of}
 use mathlib.Core.Logic.{⊎_elim}
-use Rattle.monte_chain.proofs.Chains.{length-message, message-at, message-zero}
+use Rattle.monte_chain.proofs.Chains.{length_message, message-at, message-zero}
 use borrow.Author.Rules.{rules}
 use Rattle.monte_chain.proofs.next_message.Statement.{statement}
 use Rattle.monte_chain.proofs.next_message.Tie as tie
 
 abbrev invariant-loop : tie.invariant-loop
-invariant-loop output message₀ i₀ message i = Filled 16 (messageOf output) message i
+invariant-loop output message₀ i₀ message i = Filled 16 (message_of output) message i
 
 abbrev decreases-loop : tie.decreases-loop
 decreases-loop output message₀ i₀ message i = 16 - i
 
 loop-holds : tie.Need-loop-init invariant-loop decreases-loop
-loop-holds c = filled_none (messageOf c.args.output.now) _ (length-message _) refl
+loop-holds c = filled_none (message_of c.args.output.now) _ (length_message _) refl
 
 shared-slice-read-message : tie.Need-shared-slice-read-message invariant-loop decreases-loop
 shared-slice-read-message c = search rules
@@ -37,7 +37,7 @@ loop-again c =
     let i = at-loop.loop.i in
     let output = at-loop.before.args.output.now in
     let h : i < 16 = omega arith in
-    let v : c.if1.message ≡ get_or (messageOf output) i 0 =
+    let v : c.if1.message ≡ get_or (message_of output) i 0 =
     ⊎_elim
     (λ w. w.2 ∙ sym (message-at output i h w.0.taken))
     (λ w. w.1 ∙ sym (message-zero output i h w.0.left))

@@ -1,5 +1,5 @@
 use native.Mathlib.Omega.{arith}
-use Rattle.monte_chain.proofs.Chains.{sizes-ordered, greatest-most, size-most}
+use Rattle.monte_chain.proofs.Chains.{sizes_ordered, greatest-most, size-most}
 use borrow.Author.Rules.{rules}
 use Rattle.monte_chain.proofs.output_size.Statement.{statement}
 use Rattle.monte_chain.proofs.output_size.Tie as tie
@@ -11,7 +11,7 @@ greatest-size-requires : tie.Need-greatest-size-requires
 greatest-size-requires c κs = search rules
 
 sub-sizes : tie.Need-overflow-sub-sizes
-sub-sizes c = rw (c.before.least_size.ensures, c.greatest-size.ensures) (sizes-ordered c.before.before.args.function)
+sub-sizes c = rw (c.before.least_size.ensures, c.greatest-size.ensures) (sizes_ordered c.before.before.args.function)
 
 add-sizes : tie.Need-overflow-add-sizes
 add-sizes c = omega (arith, c.greatest-size.ensures, greatest-most c.before.before.args.function)

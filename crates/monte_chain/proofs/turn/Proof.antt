@@ -5,8 +5,8 @@ use native.Mathlib.Omega.{arith}
 use lib.ListN.{length, take, drop, replicate, length-append}
 use lib.Seq.{length-take-le, take_at}
 use Rattle.lists.proofs.Zeros.{size-zeros}
-use Rattle.monte_chain.specs.Monte.{outputOf, chainOf, turned}
-use Rattle.monte_chain.proofs.Chains.{size-least, size-most}
+use Rattle.monte_chain.specs.Monte.{output_of, chain_of, turned}
+use Rattle.monte_chain.proofs.Chains.{size_least, size-most}
 use borrow.Author.Rules.{rules}
 use Rattle.monte_chain.proofs.turn.Statement.{statement}
 use Rattle.monte_chain.proofs.turn.Tie as tie
@@ -19,7 +19,7 @@ slice-aggregate-put-output c = search rules
 
 -- the output has two bytes at least, and the buffer has room for it
 two : (c : tie.After-output-size) → 2 ≤ c.output-size.result
-two c = rw c.output-size.ensures (size-least c.before.args.function c.before.args.c.extra)
+two c = rw c.output-size.ensures (size_least c.before.args.function c.before.args.c.extra)
 
 room : (c : tie.After-output-size) → c.output-size.result ≤ 250
 room c = rw c.output-size.ensures (size-most c.before.args.function c.before.args.c.extra)
@@ -64,8 +64,8 @@ returns c =
     let called = put.before.before.before.before in
     let args = called.before.args in
     c.chain-of.ensures
-    ∙ ap chainOf
-    (back put ∙ put.put-output.ensures ∙ ap (outputOf args.function args.c.message) (lent called ∙ called.output-size.ensures))
+    ∙ ap chain_of
+    (back put ∙ put.put-output.ensures ∙ ap (output_of args.function args.c.message) (lent called ∙ called.output-size.ensures))
 
 pub turn_spec : {M : Type 1} → statement M
 turn_spec =

@@ -4,7 +4,7 @@ use native.Mathlib.Omega.{arith}
 use lib.ListN.{length, take}
 use lib.Seq.{length-take-le}
 use Rattle.response_files.specs.Lines.{same}
-use Rattle.monte_chain.specs.Monte.{outputOf}
+use Rattle.monte_chain.specs.Monte.{output_of}
 use borrow.Author.Rules.{rules}
 use Rattle.nist_cases.proofs.agrees.Statement.{statement}
 use Rattle.nist_cases.proofs.agrees.Tie as tie
@@ -30,7 +30,7 @@ returns : tie.Need-returns
 returns c =
     let start = c.before.before.before.before.before.before in
     c.before.agrees-in.ensures.0
-    ∙ ap (λ (n : ℕ). same (outputOf start.args.function start.args.message.now n) start.args.expected.now)
+    ∙ ap (λ (n : ℕ). same (output_of start.args.function start.args.message.now n) start.args.expected.now)
     (lent c.before.before.before)
 
 pub agrees-spec : {M : Type 1} → statement M

@@ -6,11 +6,11 @@ use native.Mathlib.Omega.{arith}
 use lib.ListN.{length, take}
 use lib.Seq.{length-take-le}
 use borrow.Author.Tests.{not-true, not-false}
-use Rattle.hex.specs.Hex.{bytes_of, decoded, written}
+use Rattle.hexadecimal.specs.Hex.{bytes_of, decoded, written}
 use Rattle.response_files.specs.Lines.{value_of}
-use Rattle.response_files.specs.Fields.{isHex}
-use Rattle.response_files.proofs.Hex.{hex-facts, hex-decoded}
-use Rattle.nist_cases.specs.Cases.{outputName, most, agrees, judged}
+use Rattle.response_files.specs.Fields.{is_hex}
+use Rattle.response_files.proofs.Hex.{hex_facts, hex-decoded}
+use Rattle.nist_cases.specs.Cases.{output_name, most, agrees, judged}
 use borrow.Author.Rules.{rules}
 use Rattle.nist_cases.proofs.judge.Statement.{statement}
 use Rattle.nist_cases.proofs.judge.Tie as tie
@@ -39,19 +39,19 @@ abbrev size : tie.After-read-hex → ℕ
 size c = (start c).args.size
 
 abbrev line : tie.After-read-hex → List ℕ
-line c = value_of outputName (start c).args.text.now
+line c = value_of output_name (start c).args.text.now
 
 abbrev buffer : tie.After-read-hex → List ℕ
 buffer c = c.before.before.large-buffer.result
 
-told : (c : tie.After-read-hex) → isHex most (size c) (line c) ≡ c.read-hex.result
+told : (c : tie.After-read-hex) → is_hex most (size c) (line c) ≡ c.read-hex.result
 told c =
     sym
     (c.read-hex.ensures.0
-    ∙ ap₂ (λ (room : ℕ) (v : List ℕ). isHex room (size c) v) (sym c.before.before.large-buffer.ensures) c.before.before.before.value.ensures)
+    ∙ ap₂ (λ (room : ℕ) (v : List ℕ). is_hex room (size c) v) (sym c.before.before.large-buffer.ensures) c.before.before.before.value.ensures)
 
 room : (c : tie.After-read-hex) → c.read-hex.result ≡ true → size c ≤ length (buffer c)
-room c e = omega (arith, (hex-facts most (size c) (line c) (told c ∙ e)).most, c.before.before.large-buffer.ensures)
+room c e = omega (arith, (hex_facts most (size c) (line c) (told c ∙ e)).most, c.before.before.large-buffer.ensures)
 
 fits : (c : tie.After-read-hex) → c.read-hex.result ≡ true → size c ≤ length c.read-hex.new.1.1.0
 fits c e = omega (arith, room c e, c.read-hex.auto.1.1.0)
@@ -83,7 +83,7 @@ agrees-requires : tie.Need-agrees-requires
 agrees-requires c κs =
     let read = c.before.before.before in
     let e = passed c.before in
-    omega (arith, lent read e, (hex-facts most (size read) (line read) (told read ∙ e)).most)
+    omega (arith, lent read e, (hex_facts most (size read) (line read) (told read ∙ e)).most)
 
 -- whether the output is the one told
 agreeing : (c : tie.After-agrees)

@@ -1,6 +1,6 @@
 use mathlib.Core.Path.{sym, ◌∙◌}
 use borrow.Author.Tests.{not-true, not-false}
-use Rattle.nist_cases.specs.Cases.{judgedCounted}
+use Rattle.nist_cases.specs.Cases.{judged_counted}
 use borrow.Author.Rules.{rules}
 use Rattle.nist_cases.proofs.judge_counted_case.Statement.{statement}
 use Rattle.nist_cases.proofs.judge_counted_case.Tie as tie
@@ -9,7 +9,7 @@ is-count-requires : tie.Need-is-count-requires
 is-count-requires c κs = search rules
 
 returns : tie.Need-returns
-unfolding judgedCounted
+unfolding judged_counted
 returns c = rw (sym c.before.is-count.ensures ∙ not-true _ c.if1.true)
 
 after-line-requires : tie.Need-after-line-requires
@@ -28,7 +28,7 @@ enum_told : tie.Need-enum-told
 enum_told c = search rules
 
 returns-2 : tie.Need-returns-2
-unfolding judgedCounted
+unfolding judged_counted
 returns-2 c =
     let second = c.before.before.before.before in
     rw (
@@ -44,7 +44,7 @@ judge-output-requires : tie.Need-judge-output-requires
 judge-output-requires c κs = search rules
 
 returns-3 : tie.Need-returns-3
-unfolding judgedCounted
+unfolding judged_counted
 returns-3 c =
     let read = c.before.before.before.before.before in
     let second = read.before.before in

@@ -6,9 +6,9 @@ use native.Mathlib.Omega.{arith}
 use lib.ListN.{length, take}
 use lib.Seq.{length-take-le}
 use borrow.Author.Tests.{not-true, not-false}
-use Rattle.hex.specs.Hex.{bytes_of}
+use Rattle.hexadecimal.specs.Hex.{bytes_of}
 use Rattle.response_files.specs.Lines.{value_of}
-use Rattle.nist_cases.specs.Cases.{messageName, most, judged, isMessage, messageIn, judgedMessage}
+use Rattle.nist_cases.specs.Cases.{message_name, most, judged, is_message, message_in, judged_message}
 use Rattle.nist_cases.proofs.Messages.{message-most, message-read}
 use borrow.Author.Rules.{rules}
 use Rattle.nist_cases.proofs.judge_message.Statement.{statement}
@@ -38,16 +38,16 @@ abbrev bytes : tie.After-read-message → ℕ
 bytes c = (start c).args.bytes
 
 abbrev line : tie.After-read-message → List ℕ
-line c = value_of messageName (start c).args.text.now
+line c = value_of message_name (start c).args.text.now
 
 abbrev buffer : tie.After-read-message → List ℕ
 buffer c = c.before.before.large-buffer.result
 
-told : (c : tie.After-read-message) → isMessage most (bytes c) (line c) ≡ c.read-message.result
+told : (c : tie.After-read-message) → is_message most (bytes c) (line c) ≡ c.read-message.result
 told c =
     sym
     (c.read-message.ensures.0
-    ∙ ap₂ (λ (room : ℕ) (v : List ℕ). isMessage room (bytes c) v) (sym c.before.before.large-buffer.ensures) c.before.before.before.value.ensures)
+    ∙ ap₂ (λ (room : ℕ) (v : List ℕ). is_message room (bytes c) v) (sym c.before.before.large-buffer.ensures) c.before.before.before.value.ensures)
 
 room : (c : tie.After-read-message) → c.read-message.result ≡ true → bytes c ≤ length (buffer c)
 room c e = omega (arith, message-most most (line c) (bytes c) (told c ∙ e), c.before.before.large-buffer.ensures)
@@ -58,13 +58,13 @@ fits c e = omega (arith, room c e, c.read-message.auto.1.1.0)
 message : (c : tie.After-read-message) → c.read-message.result ≡ true
     → take (bytes c) c.read-message.new.1.1.0 ≡ take (bytes c) (bytes_of (line c))
 message c e =
-    ap (take (bytes c)) (c.read-message.ensures.1 ∙ ap (λ (v : List ℕ). messageIn (bytes c) v (buffer c)) c.before.before.before.value.ensures)
+    ap (take (bytes c)) (c.read-message.ensures.1 ∙ ap (λ (v : List ℕ). message_in (bytes c) v (buffer c)) c.before.before.before.value.ensures)
     ∙ message-read most (line c) (bytes c) (told c ∙ e) (buffer c) (room c e)
 
 -- ---- the answers
 
 returns : tie.Need-returns
-unfolding judgedMessage
+unfolding judged_message
 returns c = rw (told c.before.before ∙ not-true _ c.if1.true)
 
 passed : (c : tie.Else1) → c.before.before.read-message.result ≡ true
@@ -83,7 +83,7 @@ judge-requires : tie.Need-judge-requires
 judge-requires c κs = search rules
 
 returns-2 : tie.Need-returns-2
-unfolding judgedMessage
+unfolding judged_message
 returns-2 c =
     let read = c.before.before.before.before.before in
     let e = passed c.before.before.before in

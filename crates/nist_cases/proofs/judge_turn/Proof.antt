@@ -1,7 +1,7 @@
 use mathlib.Core.Path.{◌≡◌, sym, ap, ◌∙◌}
 use borrow.Author.Tests.{eq-eqb, ne_eqb}
-use Rattle.monte_chain.specs.Monte.{outputSize}
-use Rattle.nist_cases.specs.Cases.{differing, judgedTurn}
+use Rattle.monte_chain.specs.Monte.{output_size}
+use Rattle.nist_cases.specs.Cases.{differing, judged_turn}
 use borrow.Author.Rules.{rules}
 use Rattle.nist_cases.proofs.judge_turn.Statement.{statement}
 use Rattle.nist_cases.proofs.judge_turn.Tie as tie
@@ -16,20 +16,20 @@ output-size-requires : tie.Need-output-size-requires
 output-size-requires c κs = search rules
 
 returns : tie.Need-returns
-unfolding judgedTurn
+unfolding judged_turn
 returns c =
     let args = c.before.before.before.before.before.before.args in
-    let e : args.size ≡ outputSize args.function args.c.extra = c.if1.true ∙ c.before.output-size.ensures in
+    let e : args.size ≡ output_size args.function args.c.extra = c.if1.true ∙ c.before.output-size.ensures in
     rw (eq-eqb _ _ e) c.before.before.judge.ensures
 
 differing-requires : tie.Need-differing-requires
 differing-requires c κs = search rules
 
 returns-2 : tie.Need-returns-2
-unfolding judgedTurn
+unfolding judged_turn
 returns-2 c =
     let args = c.before.before.before.before.before.before.before.args in
-    let n : (args.size ≡ outputSize args.function args.c.extra) → ⊥ =
+    let n : (args.size ≡ output_size args.function args.c.extra) → ⊥ =
     λ e. c.before.if1.false (e ∙ sym c.before.before.output-size.ensures) in
     rw (ne_eqb _ _ n) (c.differing.ensures ∙ ap differing c.before.before.before.judge.ensures)
 

@@ -1,6 +1,6 @@
 use mathlib.Core.Path.{refl}
 use borrow.Author.Tests.{eq-eqb, ne_eqb}
-use Rattle.nist_cases.specs.Cases.{isMessage}
+use Rattle.nist_cases.specs.Cases.{is_message}
 use borrow.Author.Rules.{rules}
 use Rattle.nist_cases.proofs.read_message.Statement.{statement}
 use Rattle.nist_cases.proofs.read_message.Tie as tie
@@ -12,7 +12,7 @@ same-requires : tie.Need-same-requires
 same-requires c κs = search rules
 
 returns : tie.Need-returns
-unfolding isMessage
+unfolding is_message
 returns c = rw (eq-eqb _ 0 c.before.before.if1.true) (c.same.ensures, refl)
 
 read-hex-requires : tie.Need-read-hex-requires
@@ -22,7 +22,7 @@ same_length : tie.Need-same-length
 same_length c = search rules
 
 returns-2 : tie.Need-returns-2
-unfolding isMessage
+unfolding is_message
 returns-2 c =
     let read = c.before.before in
     rw (ne_eqb _ 0 read.before.before.if1.false) (read.read-hex.ensures.0, read.read-hex.ensures.1)

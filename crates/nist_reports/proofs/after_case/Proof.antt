@@ -1,6 +1,6 @@
 use mathlib.Core.Path.{◌≡◌, ap, ◌∙◌}
-use Rattle.response_files.specs.Lines.{afterLine}
-use Rattle.nist_reports.specs.Reports.{afterLines}
+use Rattle.response_files.specs.Lines.{after_line}
+use Rattle.nist_reports.specs.Reports.{after_lines}
 use borrow.Author.Rules.{rules}
 use Rattle.nist_reports.proofs.after_case.Statement.{statement}
 use Rattle.nist_reports.proofs.after_case.Tie as tie
@@ -26,19 +26,19 @@ after-line-requires-4 c κs = search rules
 enum-told-3 : tie.Need-enum-told-3
 enum-told-3 c = search rules
 
-third : (c : tie.After-after-line3) → c.after-line3.result.now ≡ afterLine (afterLine (afterLine c.before.before.before.before.args.text.now))
-third c = c.after-line3.ensures ∙ ap afterLine (c.before.after-line2.ensures ∙ ap afterLine c.before.before.after_Line.ensures)
+third : (c : tie.After-after-line3) → c.after-line3.result.now ≡ after_line (after_line (after_line c.before.before.before.before.args.text.now))
+third c = c.after-line3.ensures ∙ ap after_line (c.before.after-line2.ensures ∙ ap after_line c.before.before.after_Line.ensures)
 
 returns : tie.Need-returns
-unfolding afterLines
+unfolding after_lines
 returns c = rw c.enum_told.given.1 (third c.before.before)
 
 returns-2 : tie.Need-returns-2
-unfolding afterLines
-returns-2 c = rw c.before.enum-told2.given.1 (c.after-line4.ensures ∙ ap afterLine (third c.before.before.before))
+unfolding after_lines
+returns-2 c = rw c.before.enum-told2.given.1 (c.after-line4.ensures ∙ ap after_line (third c.before.before.before))
 
 returns-3 : tie.Need-returns-3
-unfolding afterLines
+unfolding after_lines
 returns-3 c = rw c.enum-told3.given.1 (third c.before.before)
 
 pub after-case-spec : {M : Type 1} → statement M

@@ -1,5 +1,5 @@
-use Rattle.monte_chain.proofs.Chains.{sizes-ordered}
-use Rattle.nist_reports.specs.Reports.{firstChain}
+use Rattle.monte_chain.proofs.Chains.{sizes_ordered}
+use Rattle.nist_reports.specs.Reports.{first_chain}
 use borrow.Author.Rules.{rules}
 use Rattle.nist_reports.proofs.first_chain.Statement.{statement}
 use Rattle.nist_reports.proofs.first_chain.Tie as tie
@@ -19,13 +19,13 @@ least-size-requires c κs = search rules
 sub-extra : tie.Need-overflow-sub-extra
 sub-extra c =
     rw (c.least_size.ensures, c.before.greatest-size.ensures)
-    (sizes-ordered c.before.before.before.before.before.before.args.function)
+    (sizes_ordered c.before.before.before.before.before.before.args.function)
 
 many-turns-requires : tie.Need-many-turns-requires
 many-turns-requires c κs = search rules
 
 returns : tie.Need-returns
-unfolding firstChain
+unfolding first_chain
 returns c =
     rw (← c.before.before.before.before.decode.ensures.1, ← c.before.least_size.ensures, ← c.before.before.greatest-size.ensures)
     c.many-turns.ensures

@@ -2,10 +2,10 @@ use mathlib.Core.Path.{◌≡◌, sym, ap, ◌∙◌}
 use mathlib.Core.Bool.{true}
 use lib.Dec.{eqb}
 use borrow.Author.Tests.{eq-eqb, ne_eqb}
-use Rattle.response_files.specs.Fields.{isHex}
-use Rattle.response_files.specs.Headers.{headerNumber}
-use Rattle.monte_chain.specs.Monte.{leastSize}
-use Rattle.nist_reports.specs.Reports.{minimumName, isMonte}
+use Rattle.response_files.specs.Fields.{is_hex}
+use Rattle.response_files.specs.Headers.{header_number}
+use Rattle.monte_chain.specs.Monte.{least_size}
+use Rattle.nist_reports.specs.Reports.{minimum_name, is_monte}
 use borrow.Author.Rules.{rules}
 use Rattle.nist_reports.proofs.is_monte.Statement.{statement}
 use Rattle.nist_reports.proofs.is_monte.Tie as tie
@@ -20,14 +20,14 @@ least-size-requires : tie.Need-least-size-requires
 least-size-requires c κs = search rules
 
 returns : tie.Need-returns
-unfolding isMonte
+unfolding is_monte
 returns c =
     rw (ne_eqb _ _ (λ e. c.if1.true (c.before.before.header-number.ensures ∙ e ∙ sym c.before.least_size.ensures)))
 
 -- the first header gives the least size
 least : (c : tie.Else1)
-    → eqb (headerNumber minimumName c.before.before.before.before.before.before.args.text.now)
-    (leastSize c.before.before.before.before.before.before.args.function)
+    → eqb (header_number minimum_name c.before.before.before.before.before.before.args.text.now)
+    (least_size c.before.before.before.before.before.before.args.function)
     ≡ true
 least c = eq-eqb _ _ (sym c.before.before.header-number.ensures ∙ c.if1.false ∙ c.before.least_size.ensures)
 
@@ -41,7 +41,7 @@ greatest-size-requires : tie.Need-greatest-size-requires
 greatest-size-requires c κs = search rules
 
 returns-2 : tie.Need-returns-2
-unfolding isMonte
+unfolding is_monte
 returns-2 c =
     rw (
       least c.before.before.before.before,
@@ -61,12 +61,12 @@ read-hex-requires : tie.Need-read-hex-requires
 read-hex-requires c κs = search rules
 
 returns-3 : tie.Need-returns-3
-unfolding isMonte
+unfolding is_monte
 returns-3 c =
     let second = c.before.before.before.before.before in
     let greatest = sym second.before.before.header-number2.ensures ∙ second.if2.false ∙ second.before.greatest-size.ensures in
     rw (least second.before.before.before.before, eq-eqb _ _ greatest)
-    (c.before.read-hex.ensures.0 ∙ ap (isHex 16 16) c.before.before.before.value.ensures)
+    (c.before.read-hex.ensures.0 ∙ ap (is_hex 16 16) c.before.before.before.value.ensures)
 
 pub is-monte-spec : {M : Type 1} → statement M
 is-monte-spec =

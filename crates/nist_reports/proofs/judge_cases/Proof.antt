@@ -9,8 +9,8 @@ use native.Mathlib.Omega.{arith}
 use lib.ListN.{length}
 use Rattle.vectors.specs.declared.Report.TheVariants.{Counts, MalformedLine}
 use Rattle.response_files.proofs.Lines.{after-within}
-use Rattle.nist_reports.specs.Reports.{reportOn}
-use Rattle.nist_reports.proofs.Cases.{case-shorter, reportFrom, report-end, report-blank, report-agreed, report-differed, report-malformed}
+use Rattle.nist_reports.specs.Reports.{report_on}
+use Rattle.nist_reports.proofs.Cases.{case_shorter, report_from, report_end, report_blank, report-agreed, report-differed, report-malformed}
 use borrow.Author.Rules.{rules}
 use Rattle.nist_reports.proofs.judge_cases.Statement.{statement}
 use Rattle.nist_reports.proofs.judge_cases.Tie as tie
@@ -18,13 +18,13 @@ use Rattle.nist_reports.proofs.judge_cases.Tie as tie
 abbrev invariant-loop : tie.invariant-loop
 invariant-loop function kind text body number rest₀ c₀ agreed₀ differed₀ rest c agreed differed =
     (agreed + differed + length rest ≤ length body)
-    × (reportFrom function kind number text agreed differed c rest ≡ reportOn function kind number c₀ text body)
+    × (report_from function kind number text agreed differed c rest ≡ report_on function kind number c₀ text body)
 
 abbrev decreases-loop : tie.decreases-loop
 decreases-loop function kind text body number rest₀ c₀ agreed₀ differed₀ rest c agreed differed = length rest
 
 loop-holds : tie.Need-loop-init invariant-loop decreases-loop
-unfolding reportOn
+unfolding report_on
 loop-holds c = (omega arith, refl)
 
 is-blank-requires : tie.Need-is-blank-requires invariant-loop decreases-loop
@@ -42,7 +42,7 @@ loop-again c =
     let rest = at-loop.loop.rest.now in
     let blank = sym c.before.before.is-blank.ensures ∙ c.before.if1.true in
     rw c.after_Line.ensures
-    (omega (arith, after-within rest), sym (report-blank _ _ _ _ _ _ _ _ c.before.before.before.loop-test.true blank) ∙ at-loop.loop.invariant.1)
+    (omega (arith, after-within rest), sym (report_blank _ _ _ _ _ _ _ _ c.before.before.before.loop-test.true blank) ∙ at-loop.loop.invariant.1)
 
 add-judge-case : tie.Need-overflow-add-judge-case invariant-loop decreases-loop
 add-judge-case c = search rules
@@ -88,7 +88,7 @@ loop-less-2 : tie.Need-loop-smaller-2 invariant-loop decreases-loop
 loop-less-2 c =
     let turn = c.before.before.before.before.before.before in
     rw c.after-case.ensures
-    (case-shorter turn.before.before.before.before.args.kind turn.before.loop.rest.now turn.loop-test.true)
+    (case_shorter turn.before.before.before.before.args.kind turn.before.loop.rest.now turn.loop-test.true)
 
 loop-again-2 : tie.Need-loop-preserved-2 invariant-loop decreases-loop
 loop-again-2 c =
@@ -97,7 +97,7 @@ loop-again-2 c =
     let rest = at-loop.loop.rest.now in
     let some : 0 < length rest = judged.before.before.before.loop-test.true in
     let blank = sym judged.before.before.is-blank.ensures ∙ judged.before.if1.false in
-    let shorter = case-shorter at-loop.before.before.before.args.kind rest some in
+    let shorter = case_shorter at-loop.before.before.before.args.kind rest some in
     let verdict = sym judged.judge-case.ensures in
     let so_far = at-loop.loop.invariant.1 in
     rw (c.after-case.ensures, c.before.next-chain.ensures)
@@ -108,7 +108,7 @@ loop-again-2 c =
 
 -- the report where nothing is left
 ended : (c : tie.After-loop invariant-loop decreases-loop)
-    → reportOn c.before.before.before.before.args.function c.before.before.before.before.args.kind
+    → report_on c.before.before.before.before.args.function c.before.before.before.before.args.kind
     c.before.before.before.before.args.number c.before.before.before.before.args.c
     c.before.before.before.before.args.text.now c.before.before.before.before.args.body.now
     ≡ cond (eqb (c.before.loop.agreed + c.before.loop.differed) 0)
@@ -116,7 +116,7 @@ ended : (c : tie.After-loop invariant-loop decreases-loop)
     (Counts c.before.loop.agreed c.before.loop.differed)
 ended c =
     let none : length c.before.loop.rest.now ≡ 0 = omega arith in
-    sym c.before.loop.invariant.1 ∙ report-end _ _ _ _ _ _ _ _ none
+    sym c.before.loop.invariant.1 ∙ report_end _ _ _ _ _ _ _ _ none
 
 add-if2 : tie.Need-overflow-add-if2 invariant-loop decreases-loop
 add-if2 c = search rules

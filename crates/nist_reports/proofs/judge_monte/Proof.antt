@@ -1,7 +1,7 @@
 use mathlib.Core.Path.{sym, ap, ◌∙◌}
 use borrow.Author.Tests.{not-true, not-false}
 use Rattle.vectors.specs.declared.Report.TheVariants.{MalformedLine}
-use Rattle.nist_reports.specs.Reports.{reportMonte}
+use Rattle.nist_reports.specs.Reports.{report_monte}
 use borrow.Author.Rules.{rules}
 use Rattle.nist_reports.proofs.judge_monte.Statement.{statement}
 use Rattle.nist_reports.proofs.judge_monte.Tie as tie
@@ -16,7 +16,7 @@ line-number-requires : tie.Need-line-number-requires
 line-number-requires c κs = search rules
 
 returns : tie.Need-returns
-unfolding reportMonte
+unfolding report_monte
 returns c =
     rw (← c.before.before.before.body.ensures, sym c.before.before.is-monte.ensures ∙ not-true _ c.before.if1.true)
     (ap MalformedLine c.line-number.ensures)
@@ -37,7 +37,7 @@ judge-cases-requires : tie.Need-judge-cases-requires
 judge-cases-requires c κs = search rules
 
 returns-2 : tie.Need-returns-2
-unfolding reportMonte
+unfolding report_monte
 returns-2 c =
     rw (
       ← c.before.before.before.before.before.before.before.body.ensures,

@@ -1,7 +1,7 @@
 use mathlib.Core.Path.{ap}
 use borrow.Author.Tests.{eq-eqb, ne_eqb}
 use Rattle.vectors.specs.declared.Report.TheVariants.{MalformedLine}
-use Rattle.nist_reports.specs.Reports.{reportPlain}
+use Rattle.nist_reports.specs.Reports.{report_plain}
 use borrow.Author.Rules.{rules}
 use Rattle.nist_reports.proofs.judge_plain.Statement.{statement}
 use Rattle.nist_reports.proofs.judge_plain.Tie as tie
@@ -16,7 +16,7 @@ line-number-requires : tie.Need-line-number-requires
 line-number-requires c κs = search rules
 
 returns : tie.Need-returns
-unfolding reportPlain
+unfolding report_plain
 returns c =
     rw (← c.before.before.header-number.ensures, ← c.before.before.before.body.ensures, eq-eqb _ 0 c.before.if1.true)
     (ap MalformedLine c.line-number.ensures)
@@ -28,7 +28,7 @@ judge-cases-requires : tie.Need-judge-cases-requires
 judge-cases-requires c κs = search rules
 
 returns-2 : tie.Need-returns-2
-unfolding reportPlain
+unfolding report_plain
 returns-2 c =
     rw (← c.before.before.before.header-number.ensures, ← c.before.before.before.before.body.ensures, ne_eqb _ 0 c.before.before.if1.false)
     (rw c.before.no-chain.ensures at c.judge-cases.ensures)

@@ -6,20 +6,20 @@ use lib.ListN.{length}
 use Rattle.algebra.specs.Numbers.{Below}
 use Rattle.modq.proofs.Prime.{q-positive}
 use Rattle.ntt.specs.Spectrum.{q}
-use Rattle.ntt.specs.Factors.{backwardFactor, backwardLayers}
-use Rattle.butterflies.specs.Layers.{backwardLayer, unzipped, pairs, halves}
-use Rattle.butterflies.proofs.Layers.{length_pairs, length-unzipped, length-backward, below-backward, below-unzipped, halves-of-pairs, backward-of-unzipped}
+use Rattle.ntt.specs.Factors.{backward_factor, backward_layers}
+use Rattle.butterflies.specs.Layers.{backward_layer, unzipped, pairs, halves}
+use Rattle.butterflies.proofs.Layers.{length_pairs, length-unzipped, length-backward, below-backward, below-unzipped, halves_of-pairs, backward_of-unzipped}
 use Rattle.ntt.specs.Layers.{layers}
-use Rattle.ntt.proofs.Layers.{layers-zero, layers-suc, layers-more}
+use Rattle.ntt.proofs.Layers.{layers-zero, layers-suc, layers_more}
 use borrow.Author.Rules.{rules}
 use Rattle.ntt.proofs.backward_layers.Statement.{statement}
 use Rattle.ntt.proofs.backward_layers.Tie as tie
 
 abbrev Layer : ℕ → List ℕ → List ℕ
-Layer k = backwardLayer q 512 (backwardFactor (9 - k))
+Layer k = backward_layer q 512 (backward_factor (9 - k))
 
-layers-are : (a : List ℕ) → backwardLayers a ≡ layers Layer 10 a
-unfolding backwardLayers
+layers-are : (a : List ℕ) → backward_layers a ≡ layers Layer 10 a
+unfolding backward_layers
 layers-are a = refl
 
 layers-one : (a : List ℕ) → layers Layer 1 a ≡ Layer 0 a
@@ -33,7 +33,7 @@ record Unzipped (x p : List ℕ) : Type 0 where
 
 unzip : (x : List ℕ) {v p : List ℕ} → Below q x → v ≡ pairs 512 x → p ≡ halves 512 v → Unzipped x p
 unzip x {v} b e g =
-    let same = g ∙ halves-of-pairs 512 q q-positive (omega arith) x v b e in
+    let same = g ∙ halves_of-pairs 512 q q-positive (omega arith) x v b e in
     record { same = same; size = ap length same ∙ length-unzipped 512 x; below = subst (Below q) (sym same) (below-unzipped 512 x q q-positive b) }
 
 -- what a layer leaves
@@ -43,8 +43,8 @@ record Made (s : List ℕ) : Type 0 where
 
 made : {s : List ℕ} (k : ℕ) (x : List ℕ) → s ≡ Layer k x → Made s
 made k x e = record {
-  size = ap length e ∙ length-backward q 512 (backwardFactor (9 - k)) x;
-  below = subst (Below q) (sym e) (below-backward q 512 (backwardFactor (9 - k)) x q-positive);
+  size = ap length e ∙ length-backward q 512 (backward_factor (9 - k)) x;
+  below = subst (Below q) (sym e) (below-backward q 512 (backward_factor (9 - k)) x q-positive);
 }
 
 abbrev invariant-loop : tie.invariant-loop
@@ -59,7 +59,7 @@ first-parts : (c : tie.After-halves invariant-loop decreases-loop) → Unzipped 
 first-parts c = unzip _ c.before.before.before.before.before.before.before.before.requires.0 c.before.before.before.before.pairs.ensures c.halves.ensures
 
 first-layer : (c : tie.After-backward-layer invariant-loop decreases-loop) → c.backward-layer.new.0 ≡ Layer 0 c.before.before.before.before.before.before.before.before.before.before.before.before.args.t1
-first-layer c = c.backward-layer.ensures ∙ backward-of-unzipped q 512 _ _ _ (first-parts c.before.before.before.before).same
+first-layer c = c.backward-layer.ensures ∙ backward_of-unzipped q 512 _ _ _ (first-parts c.before.before.before.before).same
 
 slice-aggregate-pairs : tie.Need-slice-aggregate-pairs invariant-loop decreases-loop
 slice-aggregate-pairs c = search rules
@@ -146,13 +146,13 @@ loop-again c =
     let at = c.before.before.before.before.before.before.before.before.before.before.before.before.before in
     let paired = c.before.before.before.before.before.before.before.before.before.pairs2.ensures in
     let parts = unzip _ at.loop.invariant.4.below paired c.before.before.before.before.before.halves2.ensures in
-    let layer = c.before.backward-layer2.ensures ∙ backward-of-unzipped q 512 _ _ _ parts.same in (
+    let layer = c.before.backward-layer2.ensures ∙ backward_of-unzipped q 512 _ _ _ parts.same in (
       search rules,
       search rules,
       ap length paired ∙ length_pairs 512 _,
       parts.size,
       made at.loop.k _ layer,
-      (λ a e. layer ∙ ap (Layer at.loop.k) (at.loop.invariant.5 a e) ∙ sym (layers-more Layer at.loop.k a)),
+      (λ a e. layer ∙ ap (Layer at.loop.k) (at.loop.invariant.5 a e) ∙ sym (layers_more Layer at.loop.k a)),
     )
 
 returns : tie.Need-returns invariant-loop decreases-loop

@@ -7,18 +7,18 @@ use Rattle.algebra.specs.Numbers.{Below}
 use Rattle.algebra.proofs.Elements as El
 use Rattle.modq.proofs.Prime.{q-positive}
 use Rattle.ntt.specs.Spectrum.{q, degree}
-use Rattle.ntt.specs.Factors.{forwardFactor}
-use Rattle.butterflies.specs.Layers.{forwardLayer}
+use Rattle.ntt.specs.Factors.{forward_factor}
+use Rattle.butterflies.specs.Layers.{forward_layer}
 use Rattle.butterflies.proofs.Layers.{length-forward, below-forward}
 use Rattle.ntt.specs.Layers.{layers}
-use Rattle.ntt.proofs.Layers.{layers-zero, layers-more}
-use Rattle.ntt.proofs.Spectrum.{forward-layers-are}
+use Rattle.ntt.proofs.Layers.{layers-zero, layers_more}
+use Rattle.ntt.proofs.Spectrum.{forward-layers_are}
 use borrow.Author.Rules.{rules}
 use Rattle.ntt.proofs.forward.Statement.{statement}
 use Rattle.ntt.proofs.forward.Tie as tie
 
 abbrev Layer : ℕ → List ℕ → List ℕ
-Layer k = forwardLayer q 512 (forwardFactor k)
+Layer k = forward_layer q 512 (forward_factor k)
 
 abbrev invariant-loop : tie.invariant-loop
 invariant-loop w s₀ t₀ k₀ s t k = (k ≤ 5) × (length s ≡ 1024) × (length t ≡ 1024) × Below q s × (s ≡ layers Layer (2 * k) s₀)
@@ -90,8 +90,8 @@ loop-again c =
       ap length second ∙ length-forward q 512 _ _,
       ap length first ∙ length-forward q 512 _ _,
       subst (Below q) (sym second) (below-forward q 512 _ _ q-positive),
-      second ∙ ap (Layer (2 * k + 1)) (first ∙ ap (Layer (2 * k)) at.loop.invariant.4 ∙ sym (layers-more Layer (2 * k) _))
-          ∙ sym (layers-more Layer (2 * k + 1) _) ∙ ap (λ (n : ℕ). layers Layer n at.before.reduced.result) next,
+      second ∙ ap (Layer (2 * k + 1)) (first ∙ ap (Layer (2 * k)) at.loop.invariant.4 ∙ sym (layers_more Layer (2 * k) _))
+          ∙ sym (layers_more Layer (2 * k + 1) _) ∙ ap (λ (n : ℕ). layers Layer n at.before.reduced.result) next,
     )
 
 returns : tie.Need-returns invariant-loop decreases-loop
@@ -99,7 +99,7 @@ returns c =
     let a = c.before.before.before.before.args.a in
     let all : 2 * c.before.loop.k ≡ 10 = omega arith in
     c.before.loop.invariant.4 ∙ ap₂ (layers Layer) all c.before.before.reduced.ensures
-    ∙ forward-layers-are a (search rules)
+    ∙ forward-layers_are a (search rules)
 
 pub forward-spec : {M : Type 1} → statement M
 forward-spec =

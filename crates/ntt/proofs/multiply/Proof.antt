@@ -1,7 +1,7 @@
 use mathlib.Core.Path.{ap, ◌∙◌}
 use Prim.Native.Nat.{ℕ}
-use Rattle.modq.specs.Montgomery.{montgomeryProduct}
-use Rattle.modq.proofs.Montgomery.{product-of-form}
+use Rattle.modq.specs.Montgomery.{montgomery_product}
+use Rattle.modq.proofs.Montgomery.{product_of_form}
 use borrow.Author.Rules.{rules}
 use Rattle.ntt.proofs.multiply.Statement.{statement}
 use Rattle.ntt.proofs.multiply.Tie as tie
@@ -15,7 +15,7 @@ montgomery-product-requires c κs = search rules
 returns : tie.Need-returns
 returns c =
     let args = c.before.before.args in
-    c.montgomery-product.ensures ∙ ap (λ (n : ℕ). montgomeryProduct n args.y) c.before.montgomery-form.ensures ∙ product-of-form args.x args.y
+    c.montgomery-product.ensures ∙ ap (λ (n : ℕ). montgomery_product n args.y) c.before.montgomery-form.ensures ∙ product_of_form args.x args.y
 
 pub multiply-spec : {M : Type 1} → statement M
 multiply-spec = tie.close (tie.spec montgomery-form-requires montgomery-product-requires returns)

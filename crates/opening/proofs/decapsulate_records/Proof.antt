@@ -1,7 +1,7 @@
 use mathlib.Core.Path.{ap, ◌∙◌}
 use Rattle.recovery.specs.Outcomes.{answered}
 use Rattle.ntt.proofs.Factors.{forward-size, backward-size}
-use Rattle.opening.proofs.Laws.{read-sized, outcome-by, decapsulated-by}
+use Rattle.opening.proofs.Laws.{read_sized, outcome_by_lem, decapsulated_by_lem}
 use borrow.Author.Rules.{rules}
 use Rattle.opening.proofs.decapsulate_records.Statement.{statement}
 use Rattle.opening.proofs.decapsulate_records.Tie as tie
@@ -49,9 +49,9 @@ returns c =
     let args = key.before.before.before.before.before.before.before.before.before.before.args in
     let (checked, elements) = words.read-encapsulation.ensures in
     let o =
-    outcome-by key.read-secret-key.result dummy.read-triple.result words.read-encapsulation.result.c1 words.read-encapsulation.result.c2 (read-sized args.key.now) spectra dummy.read-triple.ensures elements.0 elements.1 in (
+    outcome_by_lem key.read-secret-key.result dummy.read-triple.result words.read-encapsulation.result.c1 words.read-encapsulation.result.c2 (read_sized args.key.now) spectra dummy.read-triple.ensures elements.0 elements.1 in (
       c.find-triple.ensures.0
-          ∙ decapsulated-by answer checked codes.check-triple.ensures o,
+          ∙ decapsulated_by_lem answer checked codes.check-triple.ensures o,
       c.find-triple.ensures.1 ∙ ap answered o,
     )
 

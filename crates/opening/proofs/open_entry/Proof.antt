@@ -8,12 +8,12 @@ use lib.Dec.{eqb, leb}
 use borrow.Author.Tests.{not-true, not-false}
 use Rattle.answers.specs.declared.Refusal.TheVariants.{WrongLength}
 use Rattle.answers.specs.declared.Answer.{Answer}
-use Rattle.answers.specs.Answers.{unless, onDone}
-use Rattle.records.specs.Records.{bodyPart, tagPart, sealedEntryAnswer}
-use Rattle.secret_keys.specs.SecretKeys.{secretAnswer}
-use Rattle.calls.specs.Calls.{openedEntry, openAnswer, openOut}
-use Rattle.recovery.specs.Outcomes.{openedBy}
-use Rattle.opening.specs.Parts.{openedOutcome, openedQuotients}
+use Rattle.answers.specs.Answers.{unless, on_done}
+use Rattle.records.specs.Records.{body_part, tag_part, sealed_entry_answer}
+use Rattle.secret_keys.specs.SecretKeys.{secret_answer}
+use Rattle.calls.specs.Calls.{opened_entry, open_answer, open_out}
+use Rattle.recovery.specs.Outcomes.{opened_by}
+use Rattle.opening.specs.Parts.{opened_outcome, opened_quotients}
 use Rattle.calls.proofs.Lengths.{open-fits}
 use Rattle.opening.proofs.Laws.{entry-front}
 use borrow.Author.Rules.{rules}
@@ -21,10 +21,10 @@ use Rattle.opening.proofs.open_entry.Statement.{statement}
 use Rattle.opening.proofs.open_entry.Tie as tie
 
 abbrev whole : (key sealed noise : List ℕ) → Answer
-whole k e noise = openedBy (secretAnswer k) (sealedEntryAnswer e) (openedOutcome k e noise) (bodyPart e) (tagPart e)
+whole k e noise = opened_by (secret_answer k) (sealed_entry_answer e) (opened_outcome k e noise) (body_part e) (tag_part e)
 
 returns : tie.Need-returns
-unfolding openAnswer openOut
+unfolding open_answer open_out
 returns c =
     let args = c.before.before.before.before.before.args in
     let k = args.key.now in
@@ -33,8 +33,8 @@ returns c =
     let old = args.out.now in
     let misfit : leb 5 (length k) && eqb (length e) 4133 && eqb (length noise) 1536 && eqb (length old) 16 ≡ false = not-true _ c.if1.true in
     let answer = sym (ap (λ (b : Bool). unless b WrongLength (whole k e noise)) misfit) in
-    let kept = ap (λ (a : Answer). onDone a (openedEntry (openedOutcome k e noise) (bodyPart e)) old) answer in
-    let none = sym (ap (λ (b : Bool). cond b (openedQuotients k e noise) (replicate 1024 (pos 0))) misfit) in
+    let kept = ap (λ (a : Answer). on_done a (opened_entry (opened_outcome k e noise) (body_part e)) old) answer in
+    let none = sym (ap (λ (b : Bool). cond b (opened_quotients k e noise) (replicate 1024 (pos 0))) misfit) in
     (answer, (none, kept))
 
 sub-open-sealed : tie.Need-overflow-sub-open-sealed
@@ -87,7 +87,7 @@ same_length : tie.Need-same-length
 same_length c = search rules
 
 returns-2 : tie.Need-returns-2
-unfolding openAnswer openOut
+unfolding open_answer open_out
 returns-2 c =
     let opened = c.before.before in
     let left = opened.before.before.before.before.before in
@@ -100,10 +100,10 @@ returns-2 c =
     let (checked, (quotients, written)) = opened.open-sealed.ensures in
     let answer =
     checked
-    ∙ ap (λ (x : Answer). openedBy (secretAnswer k) x (openedOutcome k e noise) (bodyPart e) (tagPart e)) (entry-front e)
+    ∙ ap (λ (x : Answer). opened_by (secret_answer k) x (opened_outcome k e noise) (body_part e) (tag_part e)) (entry-front e)
     ∙ sym (ap (λ (b : Bool). unless b WrongLength (whole k e noise)) fits) in
-    let out = written ∙ ap (λ (a : Answer). onDone a (openedEntry (openedOutcome k e noise) (bodyPart e)) old) answer in
-    let w = quotients ∙ sym (ap (λ (b : Bool). cond b (openedQuotients k e noise) (replicate 1024 (pos 0))) fits) in
+    let out = written ∙ ap (λ (a : Answer). on_done a (opened_entry (opened_outcome k e noise) (body_part e)) old) answer in
+    let w = quotients ∙ sym (ap (λ (b : Bool). cond b (opened_quotients k e noise) (replicate 1024 (pos 0))) fits) in
     (answer, (w, out))
 
 pub open-entry-spec : {M : Type 1} → statement M

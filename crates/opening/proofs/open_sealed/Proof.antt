@@ -1,12 +1,12 @@
 use mathlib.Core.Path.{sym, ap, ◌∙◌}
 use mathlib.Core.List.{◌++◌}
-use Rattle.derivation.specs.Derivation.{underKeystream}
+use Rattle.derivation.specs.Derivation.{under_keystream}
 use Rattle.answers.specs.declared.Answer.{Answer}
-use Rattle.answers.specs.Answers.{onDone}
-use Rattle.sealed_records.specs.Front.{sealedFrontAnswer}
-use Rattle.secret_keys.specs.SecretKeys.{secretAnswer}
-use Rattle.calls.specs.Calls.{openedEntry}
-use Rattle.opening.specs.Parts.{openedOutcome}
+use Rattle.answers.specs.Answers.{on_done}
+use Rattle.sealed_records.specs.Front.{sealed_front_answer}
+use Rattle.secret_keys.specs.SecretKeys.{secret_answer}
+use Rattle.calls.specs.Calls.{opened_entry}
+use Rattle.opening.specs.Parts.{opened_outcome}
 use Rattle.opening.proofs.Laws.{entry-written}
 use borrow.Author.Rules.{rules}
 use Rattle.opening.proofs.open_sealed.Statement.{statement}
@@ -32,14 +32,14 @@ returns c =
     let blocks = args.front.now ++ body in
     let tag = args.tag.now in
     let (answer, (key, quotients)) = made.recover-sealed.ensures in
-    let new = underKeystream made.recover-sealed.result.k0 body in
-    let front = sealedFrontAnswer args.version args.between sealed in
-    let o = openedOutcome k sealed args.noise.now in
+    let new = under_keystream made.recover-sealed.result.k0 body in
+    let front = sealed_front_answer args.version args.between sealed in
+    let o = opened_outcome k sealed args.noise.now in
     let written =
     c.before.before.write-entry.ensures
-    ∙ ap (λ (a : Answer). onDone a new out) answer
-    ∙ entry-written (secretAnswer k) front o blocks tag body out key
-    ∙ sym (ap (λ (a : Answer). onDone a (openedEntry o body) out) answer) in
+    ∙ ap (λ (a : Answer). on_done a new out) answer
+    ∙ entry-written (secret_answer k) front o blocks tag body out key
+    ∙ sym (ap (λ (a : Answer). on_done a (opened_entry o body) out) answer) in
     (answer, (quotients, written))
 
 pub open-sealed-spec : {M : Type 1} → statement M

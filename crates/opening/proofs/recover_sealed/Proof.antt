@@ -2,8 +2,8 @@ use mathlib.Core.Path.{ap, ◌∙◌}
 use mathlib.Core.List.{◌++◌}
 use Rattle.ntt.proofs.Factors.{forward-size, backward-size}
 use Rattle.scheme.specs.Scheme.{Outcome}
-use Rattle.recovery.specs.Outcomes.{answered, tripleKey0}
-use Rattle.opening.proofs.Laws.{read-sized, outcome-by, quotients-by, opened-by}
+use Rattle.recovery.specs.Outcomes.{answered, triple_key0}
+use Rattle.opening.proofs.Laws.{read_sized, outcome_by_lem, quotients_by_lem, opened_by_lem}
 use borrow.Author.Rules.{rules}
 use Rattle.opening.proofs.recover_sealed.Statement.{statement}
 use Rattle.opening.proofs.recover_sealed.Tie as tie
@@ -50,14 +50,14 @@ returns c =
     let (answer, spectra) = key.read-secret-key.ensures in
     let args = key.before.before.before.before.before.before.before.before.before.before.before.before.before.args in
     let (checked, (c1, c2)) = read.read-sealed.ensures in
-    let sized = read-sized args.key.now in
+    let sized = read_sized args.key.now in
     let o =
-    outcome-by key.read-secret-key.result dummy.noise-triple.result read.read-sealed.result.c1 read.read-sealed.result.c2 sized spectra dummy.noise-triple.ensures c1 c2 in
+    outcome_by_lem key.read-secret-key.result dummy.noise-triple.result read.read-sealed.result.c1 read.read-sealed.result.c2 sized spectra dummy.noise-triple.ensures c1 c2 in
     let w =
-    quotients-by key.read-secret-key.result dummy.noise-triple.result read.read-sealed.result.c1 read.read-sealed.result.c2 sized spectra dummy.noise-triple.ensures c1 c2 in
+    quotients_by_lem key.read-secret-key.result dummy.noise-triple.result read.read-sealed.result.c1 read.read-sealed.result.c2 sized spectra dummy.noise-triple.ensures c1 c2 in
     let (said, (k0, quotients)) = c.recover.ensures in (
-      said ∙ opened-by (args.front.now ++ args.body.now) answer checked o block.read-block.ensures,
-      (k0 ∙ ap (λ (x : Outcome). tripleKey0 (answered x)) o, quotients ∙ w),
+      said ∙ opened_by_lem (args.front.now ++ args.body.now) answer checked o block.read-block.ensures,
+      (k0 ∙ ap (λ (x : Outcome). triple_key0 (answered x)) o, quotients ∙ w),
     )
 
 pub recover-sealed-spec : {M : Type 1} → statement M

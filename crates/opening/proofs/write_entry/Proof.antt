@@ -1,5 +1,5 @@
 use mathlib.Core.Path.{sym, ◌∙◌}
-use Rattle.answers.proofs.AnswerLaws.{on-done}
+use Rattle.answers.proofs.AnswerLaws.{on_done_lem}
 use borrow.Author.Rules.{rules}
 use Rattle.opening.proofs.write_entry.Statement.{statement}
 use Rattle.opening.proofs.write_entry.Tie as tie
@@ -17,7 +17,7 @@ same_length : tie.Need-same-length
 same_length c = search rules
 
 returns : tie.Need-returns
-returns c = c.before.before.under-keystream.ensures ∙ sym (on-done _ _ c.before.before.before.before.enum_told.given.1)
+returns c = c.before.before.under-keystream.ensures ∙ sym (on_done_lem _ _ c.before.before.before.before.enum_told.given.1)
 
 returns-2 : tie.Need-returns-2
 returns-2 c = search rules

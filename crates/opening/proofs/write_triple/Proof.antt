@@ -1,12 +1,12 @@
-use Rattle.records.specs.Layout.{tripleLength}
-use Rattle.answers.proofs.AnswerLaws.{on-done}
+use Rattle.records.specs.Layout.{triple_length}
+use Rattle.answers.proofs.AnswerLaws.{on_done_lem}
 use mathlib.Core.Path.{◌≡◌, sym, ap, ◌∙◌}
 use Rattle.answers.specs.declared.Answer.{Answer}
-use Rattle.answers.specs.Answers.{onDone}
+use Rattle.answers.specs.Answers.{on_done}
 use lib.ListN.{length}
 use Rattle.encoding.proofs.Buffers.{put-exact}
-use Rattle.triples.specs.Triple.{tripleBytes}
-use Rattle.triples.proofs.Triples.{length-tripleBytes}
+use Rattle.triples.specs.Triple.{triple_bytes}
+use Rattle.triples.proofs.Triples.{length-triple_bytes}
 use borrow.Author.Rules.{rules}
 use Rattle.opening.proofs.write_triple.Statement.{statement}
 use Rattle.opening.proofs.write_triple.Tie as tie
@@ -29,10 +29,10 @@ returns c =
     let start = told.before.before.before in
     let t = start.args.t in
     let old = start.args.out.now in
-    let size : length old ≡ tripleLength = start.requires in
+    let size : length old ≡ triple_length = start.requires in
     c.before.before.write-triple.ensures
-    ∙ put-exact (tripleBytes t.r t.e1 t.e2) old (length-tripleBytes t.r t.e1 t.e2 ∙ sym size)
-    ∙ sym (on-done _ _ told.enum_told.given.1)
+    ∙ put-exact (triple_bytes t.r t.e1 t.e2) old (length-triple_bytes t.r t.e1 t.e2 ∙ sym size)
+    ∙ sym (on_done_lem _ _ told.enum_told.given.1)
 
 returns-2 : tie.Need-returns-2
 returns-2 c = search rules

@@ -6,11 +6,11 @@ use native.Mathlib.Omega.{arith}
 use lib.ListN.{length}
 use borrow.Author.Tests.{ne_eqb}
 use Rattle.answers.specs.declared.KeyRecord.TheVariants.{PublicKey}
-use Rattle.records.specs.Layout.{publicKeyMark, publicKeyLength, seededKeyLength}
-use Rattle.records.specs.Records.{aWord, bWord, headerAnswer}
-use Rattle.records.proofs.Checks.{front-checked}
+use Rattle.records.specs.Layout.{public_key_mark, public_key_length, seeded_key_length}
+use Rattle.records.specs.Records.{a_word, b_word, header_answer}
+use Rattle.records.proofs.Checks.{front_checked}
 use Rattle.records.proofs.Writing.{argument_is}
-use Rattle.public_keys.specs.PublicKeys.{seeded?}
+use Rattle.public_keys.specs.PublicKeys.{is_seeded_key}
 use Rattle.public_keys.proofs.EitherKind.{long-a, long-b, long-record, long-stream}
 use borrow.Author.Rules.{rules}
 use Rattle.public_keys.proofs.read_long.Statement.{statement}
@@ -28,11 +28,11 @@ returns c =
     let read = judged.before in
     let start = read.before.before in
     let k = start.args.bytes.now in
-    let size : length k ≡ publicKeyLength = start.requires in
-    let kind : seeded? k ≡ false = ne_eqb (length k) seededKeyLength (λ e. omega arith) in
+    let size : length k ≡ public_key_length = start.requires in
+    let kind : is_seeded_key k ≡ false = ne_eqb (length k) seeded_key_length (λ e. omega arith) in
     let (header, (elements, places)) = read.read-record.ensures in
-    let marked = argument_is (λ (mark : List ℕ). headerAnswer mark 1 k) _ publicKeyMark header refl in (
-      (front-checked publicKeyMark 1 (aWord PublicKey) (bWord PublicKey) k marked places judged.front-answer.ensures ∙ sym (long-record k kind), sym (long-stream k kind)),
+    let marked = argument_is (λ (mark : List ℕ). header_answer mark 1 k) _ public_key_mark header refl in (
+      (front_checked public_key_mark 1 (a_word PublicKey) (b_word PublicKey) k marked places judged.front-answer.ensures ∙ sym (long-record k kind), sym (long-stream k kind)),
       (elements.0 ∙ sym (long-a k kind), elements.1 ∙ sym (long-b k kind)),
     )
 

@@ -1,4 +1,4 @@
-use Rattle.public_keys.proofs.PublicLaws.{long-length}
+use Rattle.public_keys.proofs.PublicLaws.{long_length}
 use borrow.Author.Rules.{rules}
 use Rattle.public_keys.proofs.read_parts.Statement.{statement}
 use Rattle.public_keys.proofs.read_parts.Tie as tie
@@ -10,7 +10,7 @@ returns : tie.Need-returns
 returns c = search rules
 
 read-long-requires : tie.Need-read-long-requires
-read-long-requires c κs = long-length c.before.before.args.bytes.now c.before.before.requires c.if1.false
+read-long-requires c κs = long_length c.before.before.args.bytes.now c.before.before.requires c.if1.false
 
 returns-2 : tie.Need-returns-2
 returns-2 c = search rules

@@ -2,12 +2,12 @@ use mathlib.Core.Path.{ap, ap₂, ◌∙◌}
 use mathlib.Core.Bool.{Bool, decide}
 use mathlib.Core.List.{List}
 use Prim.Native.Nat.{ℕ}
-use Rattle.ntt.specs.Spectrum.{spectrumOf}
-use Rattle.ring.specs.Invertible.{invertible?}
+use Rattle.ntt.specs.Spectrum.{spectrum_of}
+use Rattle.ring.specs.Invertible.{is_invertible}
 use Rattle.answers.specs.declared.Refusal.TheVariants.{NotInvertible}
 use Rattle.answers.specs.declared.Answer.TheVariants.{Done}
-use Rattle.answers.specs.Answers.{unless, andThen}
-use Rattle.public_keys.specs.PublicKeys.{publicAnswer}
+use Rattle.answers.specs.Answers.{unless, and_then}
+use Rattle.public_keys.specs.PublicKeys.{public_answer}
 use borrow.Author.Rules.{rules}
 use Rattle.public_keys.proofs.read_public_key.Statement.{statement}
 use Rattle.public_keys.proofs.read_public_key.Tie as tie
@@ -28,16 +28,16 @@ and-then-requires-2 : tie.Need-and-then-requires-2
 and-then-requires-2 c κs = search rules
 
 returns : tie.Need-returns
-unfolding publicAnswer
+unfolding public_answer
 returns c =
     let judged = c.before in
     let made = judged.before.before.before.before in
     let read = made.before.before.before in
     let ((record-answer, stream), (a, b)) = read.read-parts.ensures in
     let key = made.public-key.ensures in
-    let invertible = judged.before.unless.ensures ∙ ap (λ (x : Bool). unless x NotInvertible Done) (key.2 ∙ ap (λ (x : List ℕ). decide (invertible? x)) b) in (
-      c.and-then2.ensures ∙ ap₂ andThen record-answer (judged.and_then.ensures ∙ ap₂ andThen stream invertible),
-      (key.0 ∙ ap spectrumOf a, key.1 ∙ ap spectrumOf b),
+    let invertible = judged.before.unless.ensures ∙ ap (λ (x : Bool). unless x NotInvertible Done) (key.2 ∙ ap (λ (x : List ℕ). decide (is_invertible x)) b) in (
+      c.and-then2.ensures ∙ ap₂ and_then record-answer (judged.and_then.ensures ∙ ap₂ and_then stream invertible),
+      (key.0 ∙ ap spectrum_of a, key.1 ∙ ap spectrum_of b),
     )
 
 pub read-public-key-spec : {M : Type 1} → statement M

@@ -7,10 +7,10 @@ use borrow.Author.Tests.{eq-eqb}
 use Rattle.answers.specs.declared.Refusal.TheVariants.{StreamExhausted}
 use Rattle.answers.specs.declared.Answer.TheVariants.{Done}
 use Rattle.answers.specs.Answers.{unless}
-use Rattle.records.specs.Layout.{seededKeyLength}
-use Rattle.records.proofs.Checks.{seeded-checked}
-use Rattle.public_keys.specs.PublicKeys.{seeded?}
-use Rattle.public_keys.proofs.EitherKind.{seeded-a, seeded-b, seeded-record, seeded-stream}
+use Rattle.records.specs.Layout.{seeded_key_length}
+use Rattle.records.proofs.Checks.{seeded_checked}
+use Rattle.public_keys.specs.PublicKeys.{is_seeded_key}
+use Rattle.public_keys.proofs.EitherKind.{seeded-a, seeded_b_lem, seeded-record, seeded-stream}
 use borrow.Author.Rules.{rules}
 use Rattle.public_keys.proofs.read_seeded.Statement.{statement}
 use Rattle.public_keys.proofs.read_seeded.Tie as tie
@@ -44,14 +44,14 @@ returns c =
     let read = checked.before in
     let start = read.before.before in
     let k = start.args.bytes.now in
-    let kind : seeded? k ≡ true = eq-eqb (length k) seededKeyLength start.requires in
+    let kind : is_seeded_key k ≡ true = eq-eqb (length k) seeded_key_length start.requires in
     let (header, (b, place)) = read.read-seeded-key.ensures in
     let (count, a) = expanded.element.ensures in (
       (
-        seeded-checked k header place checked.record-answer.ensures ∙ sym (seeded-record k kind),
+        seeded_checked k header place checked.record-answer.ensures ∙ sym (seeded-record k kind),
         enough.unless.ensures ∙ ap (λ (i : ℕ). unless (eqb i 1024) StreamExhausted Done) count ∙ sym (seeded-stream k kind),
       ),
-      (a ∙ sym (seeded-a k kind), b ∙ sym (seeded-b k kind)),
+      (a ∙ sym (seeded-a k kind), b ∙ sym (seeded_b_lem k kind)),
     )
 
 pub read-seeded-spec : {M : Type 1} → statement M

@@ -4,7 +4,7 @@ use Prim.Native.Nat.{◌-◌}
 use native.Mathlib.Omega.{arith}
 use borrow.Author.Rules.{rules}
 use Rattle.ntt.specs.Spectrum.{degree}
-use Rattle.reciprocals.proofs.AreReciprocals.{Multiplied, multiplied-none, multiplied-pass, multiplied-fail, multiplied-all}
+use Rattle.reciprocals.proofs.AreReciprocals.{Multiplied, multiplied_none, multiplied_pass, multiplied_fail, multiplied_all}
 use Rattle.reciprocals.proofs.are_reciprocals.Statement.{statement}
 use Rattle.reciprocals.proofs.are_reciprocals.Tie as tie
 
@@ -15,7 +15,7 @@ abbrev decreases-loop : tie.decreases-loop
 decreases-loop x y all₀ k₀ all k = degree - k
 
 loop-holds : tie.Need-loop-init invariant-loop decreases-loop
-loop-holds c = multiplied-none _ _
+loop-holds c = multiplied_none _ _
 
 mul-mul : tie.Need-overflow-mul-mul invariant-loop decreases-loop
 mul-mul c = search rules
@@ -43,12 +43,12 @@ loop-again c =
     let inv = c.before.before.before.loop.invariant in
     let product = sym c.before.mul.ensures in
     ⊎_elim
-    (λ w. rw w.1 (multiplied-fail _ _ inv (omega arith) (λ e. w.0.taken (sym product ∙ e))))
-    (λ w. rw w.1 (multiplied-pass _ _ inv (omega arith) (product ∙ w.0.left)))
+    (λ w. rw w.1 (multiplied_fail _ _ inv (omega arith) (λ e. w.0.taken (sym product ∙ e))))
+    (λ w. rw w.1 (multiplied_pass _ _ inv (omega arith) (product ∙ w.0.left)))
     c.if1.branch
 
 returns : tie.Need-returns invariant-loop decreases-loop
-returns c = multiplied-all _ _ c.before.loop.invariant (omega arith)
+returns c = multiplied_all _ _ c.before.loop.invariant (omega arith)
 
 pub are-reciprocals-spec : {M : Type 1} → statement M
 are-reciprocals-spec =

@@ -5,21 +5,21 @@ use Prim.Native.Nat.{◌-◌}
 use native.Mathlib.Omega.{arith}
 use lib.ListN.{length}
 use borrow.Author.Rules.{rules}
-use Rattle.lists.proofs.Scan.{Scanned, scanned-none, scanned-pass, scanned-fail}
+use Rattle.lists.proofs.Scan.{Scanned, scanned_none, scanned_pass, scanned_fail}
 use Rattle.ntt.specs.Spectrum.{degree}
-use Rattle.reciprocals.specs.Reciprocals.{nonzero?}
+use Rattle.reciprocals.specs.Reciprocals.{is_nonzero}
 use Rattle.reciprocals.proofs.HasZero.{nonzero-true, nonzero-false, zero-scanned}
 use Rattle.reciprocals.proofs.has_zero.Statement.{statement}
 use Rattle.reciprocals.proofs.has_zero.Tie as tie
 
 abbrev invariant-loop : tie.invariant-loop
-invariant-loop t any₀ j₀ any j = Scanned nonzero? t (not any) j
+invariant-loop t any₀ j₀ any j = Scanned is_nonzero t (not any) j
 
 abbrev decreases-loop : tie.decreases-loop
 decreases-loop t any₀ j₀ any j = degree - j
 
 loop-holds : tie.Need-loop-init invariant-loop decreases-loop
-loop-holds c = scanned-none _ _
+loop-holds c = scanned_none _ _
 
 mul-reduce : tie.Need-overflow-mul-reduce invariant-loop decreases-loop
 mul-reduce c = search rules
@@ -43,8 +43,8 @@ loop-again c =
     let size : length at.before.args.t1 ≡ degree = search rules in
     let residue = sym c.before.reduce.ensures in
     ⊎_elim
-    (λ w. rw w.1 (scanned-fail inv (omega arith) (nonzero-false _ (residue ∙ w.0.taken))))
-    (λ w. rw w.1 (scanned-pass inv (omega arith) (nonzero-true _ (λ e. w.0.left (sym residue ∙ e)))))
+    (λ w. rw w.1 (scanned_fail inv (omega arith) (nonzero-false _ (residue ∙ w.0.taken))))
+    (λ w. rw w.1 (scanned_pass inv (omega arith) (nonzero-true _ (λ e. w.0.left (sym residue ∙ e)))))
     c.if1.branch
 
 returns : tie.Need-returns invariant-loop decreases-loop

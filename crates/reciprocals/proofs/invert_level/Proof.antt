@@ -1,7 +1,7 @@
 use Prim.Native.Nat.{◌-◌}
 use native.Mathlib.Omega.{arith}
 use borrow.Author.Rules.{rules}
-use Rattle.reciprocals.proofs.Levels.{Inverted, inverted-none, inverted-more, inverted-all}
+use Rattle.reciprocals.proofs.Levels.{Inverted, inverted_none, inverted_more, inverted_all}
 use Rattle.reciprocals.proofs.invert_level.Statement.{statement}
 use Rattle.reciprocals.proofs.invert_level.Tie as tie
 
@@ -12,7 +12,7 @@ abbrev decreases-loop : tie.decreases-loop
 decreases-loop r₀ h m j₀ r j = m - j
 
 loop-holds : tie.Need-loop-init invariant-loop decreases-loop
-loop-holds c = inverted-none _ _ _ (omega (arith, c.requires.0, c.requires.1))
+loop-holds c = inverted_none _ _ _ (omega (arith, c.requires.0, c.requires.1))
 
 add-u : tie.Need-overflow-add-u invariant-loop decreases-loop
 add-u c = search rules
@@ -87,10 +87,10 @@ loop-again : tie.Need-loop-preserved invariant-loop decreases-loop
 loop-again c =
     let at = c.before.before.before.before.before.before in
     let taken = c.before.before.before.before.before.loop-test.true in
-    inverted-more taken at.loop.invariant c.before.mul.ensures c.mul2.ensures
+    inverted_more taken at.loop.invariant c.before.mul.ensures c.mul2.ensures
 
 returns : tie.Need-returns invariant-loop decreases-loop
-returns c = inverted-all c.before.loop.invariant c.loop-test.false
+returns c = inverted_all c.before.loop.invariant c.loop-test.false
 
 pub invert-level-spec : {M : Type 1} → statement M
 invert-level-spec =

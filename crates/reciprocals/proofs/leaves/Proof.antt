@@ -7,7 +7,7 @@ use lib.Seq.{take-set-le, drop-set-add}
 use borrow.Author.Rules.{rules}
 use Rattle.lists.proofs.Fill.{Filled, filled_none, filled_more, filled-all}
 use Rattle.ntt.specs.Spectrum.{degree}
-use Rattle.reciprocals.specs.Tree.{leavesOf}
+use Rattle.reciprocals.specs.Tree.{leaves_of}
 use Rattle.reciprocals.proofs.leaves.Statement.{statement}
 use Rattle.reciprocals.proofs.leaves.Tie as tie
 
@@ -53,7 +53,7 @@ loop-again c =
     )
 
 returns : tie.Need-returns invariant-loop decreases-loop
-unfolding leavesOf
+unfolding leaves_of
 returns c =
     let at = c.before in
     sym (take-append-drop degree at.loop.h) ∙ ap₂ (λ (x y : List ℕ). x ++ y) at.loop.invariant.2 (filled-all at.loop.invariant.1 c.loop-test.false)

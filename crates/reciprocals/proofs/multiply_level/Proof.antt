@@ -1,7 +1,7 @@
 use Prim.Native.Nat.{◌-◌}
 use native.Mathlib.Omega.{arith}
 use borrow.Author.Rules.{rules}
-use Rattle.reciprocals.proofs.Levels.{Multiplied, multiplied-none, multiplied-more, multiplied-all}
+use Rattle.reciprocals.proofs.Levels.{Multiplied, multiplied_none, multiplied_more, multiplied_all}
 use Rattle.reciprocals.proofs.multiply_level.Statement.{statement}
 use Rattle.reciprocals.proofs.multiply_level.Tie as tie
 
@@ -12,7 +12,7 @@ abbrev decreases-loop : tie.decreases-loop
 decreases-loop h₀ m j₀ h j = m - j
 
 loop-holds : tie.Need-loop-init invariant-loop decreases-loop
-loop-holds c = multiplied-none _ _ (omega (arith, c.requires.0, c.requires.1))
+loop-holds c = multiplied_none _ _ (omega (arith, c.requires.0, c.requires.1))
 
 mul-x : tie.Need-overflow-mul-x invariant-loop decreases-loop
 mul-x c = search rules
@@ -59,10 +59,10 @@ loop-less c = search rules
 loop-again : tie.Need-loop-preserved invariant-loop decreases-loop
 loop-again c =
     let at = c.before.before.before.before in
-    multiplied-more c.before.before.before.loop-test.true at.loop.invariant c.mul.ensures
+    multiplied_more c.before.before.before.loop-test.true at.loop.invariant c.mul.ensures
 
 returns : tie.Need-returns invariant-loop decreases-loop
-returns c = multiplied-all c.before.loop.invariant c.loop-test.false
+returns c = multiplied_all c.before.loop.invariant c.loop-test.false
 
 pub multiply-level-spec : {M : Type 1} → statement M
 multiply-level-spec =

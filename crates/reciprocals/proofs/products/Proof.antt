@@ -5,9 +5,9 @@ use lib.ListN.{length}
 use borrow.Author.Rules.{rules}
 use Rattle.ntt.specs.Layers.{layers}
 use Rattle.ntt.proofs.Factors.{shifted}
-use Rattle.ntt.proofs.Layers.{layers-zero, layers-more}
+use Rattle.ntt.proofs.Layers.{layers-zero, layers_more}
 use Rattle.ntt.specs.Spectrum.{degree}
-use Rattle.reciprocals.specs.Tree.{productsOf}
+use Rattle.reciprocals.specs.Tree.{products_of}
 use Rattle.reciprocals.proofs.Trees.{level-small, Up, length_up}
 use Rattle.reciprocals.proofs.products.Statement.{statement}
 use Rattle.reciprocals.proofs.products.Tie as tie
@@ -46,11 +46,11 @@ loop-again c =
     let made = rw (shifted (9 - at.loop.k) below) at c.multiply-level.ensures in (
       search rules,
       ap length made ∙ length_up at.loop.k _ at.loop.invariant.1,
-      made ∙ ap (Up at.loop.k) at.loop.invariant.2 ∙ sym (layers-more Up at.loop.k _),
+      made ∙ ap (Up at.loop.k) at.loop.invariant.2 ∙ sym (layers_more Up at.loop.k _),
     )
 
 returns : tie.Need-returns invariant-loop decreases-loop
-unfolding productsOf
+unfolding products_of
 returns c =
     let end : c.before.loop.k ≡ 10 = omega arith in
     c.before.loop.invariant.2 ∙ ap (λ (k : ℕ). layers Up k c.before.before.args.h.now) end

@@ -4,7 +4,7 @@ use lib.Dec.{eqb}
 use Rattle.answers.specs.declared.Refusal.TheVariants.{InvalidCode}
 use Rattle.answers.specs.declared.Answer.TheVariants.{Done}
 use Rattle.answers.specs.Answers.{unless}
-use Rattle.records.specs.Records.{codesAnswer}
+use Rattle.records.specs.Records.{codes_answer}
 use borrow.Author.Rules.{rules}
 use Rattle.records.proofs.check_codes.Statement.{statement}
 use Rattle.records.proofs.check_codes.Tie as tie
@@ -16,7 +16,7 @@ unless-requires : tie.Need-unless-requires
 unless-requires c κs = search rules
 
 returns : tie.Need-returns
-unfolding codesAnswer
+unfolding codes_answer
 returns c =
     c.unless.ensures ∙ ap (λ (i : ℕ). unless (eqb i 1024) InvalidCode Done) c.before.first-invalid-code.ensures
 

@@ -1,5 +1,5 @@
 use mathlib.Core.Path.{ap₂, ◌∙◌}
-use Rattle.answers.specs.Answers.{andThen}
+use Rattle.answers.specs.Answers.{and_then}
 use borrow.Author.Rules.{rules}
 use Rattle.records.proofs.places_answer.Statement.{statement}
 use Rattle.records.proofs.places_answer.Tie as tie
@@ -14,7 +14,7 @@ and-then-requires : tie.Need-and-then-requires
 and-then-requires c κs = search rules
 
 returns : tie.Need-returns
-returns c = c.and_then.ensures ∙ ap₂ andThen c.before.before.place-answer.ensures c.before.place-answer2.ensures
+returns c = c.and_then.ensures ∙ ap₂ and_then c.before.before.place-answer.ensures c.before.place-answer2.ensures
 
 pub places-answer-spec : {M : Type 1} → statement M
 places-answer-spec = tie.close (tie.spec place-answer-requires place-answer-requires-2 and-then-requires returns)

@@ -1,5 +1,5 @@
 use mathlib.Core.Path.{ap, ◌∙◌}
-use Rattle.encoding.specs.Words.{firstUnreduced}
+use Rattle.encoding.specs.Words.{first_unreduced}
 use borrow.Author.Rules.{rules}
 use Rattle.records.proofs.read_pair.Statement.{statement}
 use Rattle.records.proofs.read_pair.Tie as tie
@@ -39,7 +39,7 @@ returns c =
     let read = c.before.before in
     let first = read.before.before.decode-element.ensures in
     let second = read.decode-element2.ensures in
-    ((first, second), (c.before.first-unreduced.ensures ∙ ap firstUnreduced first, c.first-unreduced2.ensures ∙ ap firstUnreduced second))
+    ((first, second), (c.before.first-unreduced.ensures ∙ ap first_unreduced first, c.first-unreduced2.ensures ∙ ap first_unreduced second))
 
 pub read-pair-spec : {M : Type 1} → statement M
 read-pair-spec =

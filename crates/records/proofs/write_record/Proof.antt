@@ -4,11 +4,11 @@ use native.Mathlib.Omega.{arith}
 use Prim.Native.Nat.{◌≤◌}
 use lib.ListN.{length, length-append}
 use Rattle.encoding.specs.Header.{header}
-use Rattle.encoding.specs.Words.{elementBytes}
-use Rattle.encoding.proofs.Words.{length-elementBytes}
-use Rattle.encoding.proofs.Headers.{length-header}
-use Rattle.records.specs.Layout.{thirdPlace}
-use Rattle.records.specs.Records.{recordBytes}
+use Rattle.encoding.specs.Words.{element_bytes}
+use Rattle.encoding.proofs.Words.{length-element_bytes}
+use Rattle.encoding.proofs.Headers.{length_header_lem}
+use Rattle.records.specs.Layout.{third_place}
+use Rattle.records.specs.Records.{record_bytes}
 use Rattle.encoding.proofs.Buffers.{put_first, put-part}
 use borrow.Author.Rules.{rules}
 use Rattle.records.proofs.write_record.Statement.{statement}
@@ -54,18 +54,18 @@ same_length : tie.Need-same-length
 same_length c = search rules
 
 returns : tie.Need-returns
-unfolding recordBytes
+unfolding record_bytes
 returns c =
     let start = c.before.before.before.before.before.before.before.before.before.before.before.before.before in
     let args = start.args in
     let old = args.out.now in
     let h = header args.mark args.version in
-    let x = elementBytes args.first in
-    let y = elementBytes args.second in
-    let room : thirdPlace ≤ length old = start.requires in
-    let sh : length h ≡ 5 = length-header args.mark args.version in
-    let sx : length x ≡ 2048 = length-elementBytes args.first in
-    let sy : length y ≡ 2048 = length-elementBytes args.second in
+    let x = element_bytes args.first in
+    let y = element_bytes args.second in
+    let room : third_place ≤ length old = start.requires in
+    let sh : length h ≡ 5 = length_header_lem args.mark args.version in
+    let sx : length x ≡ 2048 = length-element_bytes args.first in
+    let sy : length y ≡ 2048 = length-element_bytes args.second in
     let shx : length (h ++ x) ≡ 2053 = omega (arith, length-append h x) in
     let front = put_first h old 5 sh (omega arith) c.before.before.before.before.before.before.before.before.before.before.encode-header.ensures in
     let middle = put-part h x old _ 5 2048 front sh sx refl (omega arith) c.before.before.before.before.before.before.encode-element.ensures in

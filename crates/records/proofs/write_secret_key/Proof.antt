@@ -3,12 +3,12 @@ use mathlib.Core.List.{List, ◌++◌}
 use Prim.Native.Nat.{ℕ}
 use native.Mathlib.Omega.{arith}
 use lib.ListN.{length, drop}
-use Rattle.encoding.specs.Codes.{ternaryBytes}
-use Rattle.encoding.proofs.Codes.{length-ternaryBytes}
+use Rattle.encoding.specs.Codes.{ternary_bytes}
+use Rattle.encoding.proofs.Codes.{length-ternary_bytes}
 use Rattle.encoding.proofs.Buffers.{put-part, put_all}
-use Rattle.records.specs.Layout.{secretKeyMark, secretKeyLength, thirdPlace, ternaryLength}
-use Rattle.records.specs.Records.{recordBytes}
-use Rattle.records.proofs.Writing.{length-recordBytes, argument_is}
+use Rattle.records.specs.Layout.{secret_key_mark, secret_key_length, third_place, ternary_length}
+use Rattle.records.specs.Records.{record_bytes}
+use Rattle.records.proofs.Writing.{length-record_bytes, argument_is}
 use borrow.Author.Rules.{rules}
 use Rattle.records.proofs.write_secret_key.Statement.{statement}
 use Rattle.records.proofs.write_secret_key.Tie as tie
@@ -36,15 +36,15 @@ returns c =
     let start = c.before.before.before.before.before.before.before.before.before in
     let args = start.args in
     let old = args.out.now in
-    let front = recordBytes secretKeyMark 1 args.a args.b in
-    let s = ternaryBytes args.s in
-    let size : length old ≡ secretKeyLength = start.requires in
+    let front = record_bytes secret_key_mark 1 args.a args.b in
+    let s = ternary_bytes args.s in
+    let size : length old ≡ secret_key_length = start.requires in
     let first =
-    argument_is (λ (mark : List ℕ). recordBytes mark 1 args.a args.b ++ drop thirdPlace old) _ secretKeyMark
+    argument_is (λ (mark : List ℕ). record_bytes mark 1 args.a args.b ++ drop third_place old) _ secret_key_mark
     c.before.before.before.before.before.before.write-record.ensures refl in
-    put-part front s old _ thirdPlace ternaryLength first
-    (length-recordBytes secretKeyMark 1 args.a args.b) (length-ternaryBytes args.s) refl (omega arith) c.before.before.encode-ternary.ensures
-    ∙ put_all (front ++ s) old secretKeyLength (omega arith)
+    put-part front s old _ third_place ternary_length first
+    (length-record_bytes secret_key_mark 1 args.a args.b) (length-ternary_bytes args.s) refl (omega arith) c.before.before.encode-ternary.ensures
+    ∙ put_all (front ++ s) old secret_key_length (omega arith)
 
 pub write-secret-key-spec : {M : Type 1} → statement M
 write-secret-key-spec =

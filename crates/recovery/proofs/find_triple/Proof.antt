@@ -2,9 +2,9 @@ use mathlib.Core.Path.{ap, ◌∙◌}
 use Rattle.scheme.specs.declared.Decapsulation.{Decapsulation}
 use Rattle.answers.specs.declared.Refusal.TheVariants.{DecapsulationFailure}
 use Rattle.answers.specs.declared.Answer.TheVariants.{Done}
-use Rattle.answers.specs.Answers.{unless, andThen}
-use Rattle.recovery.specs.Outcomes.{asTriple, outcomeBy, quotientsBy}
-use Rattle.recovery.proofs.Laws.{found-answer, found-triple}
+use Rattle.answers.specs.Answers.{unless, and_then}
+use Rattle.recovery.specs.Outcomes.{as_triple, outcome_by, quotients_by}
+use Rattle.recovery.proofs.Laws.{found-answer, found_triple}
 use borrow.Author.Rules.{rules}
 use Rattle.recovery.proofs.find_triple.Statement.{statement}
 use Rattle.recovery.proofs.find_triple.Tie as tie
@@ -28,14 +28,14 @@ returns : tie.Need-returns
 returns c =
     let made = c.before.before.before.before.before in
     let args = made.before.before.before.before.before.before.before.before.before.args in
-    let o = outcomeBy args.key args.dummy args.c.c1 args.c.c2 in
-    let w = quotientsBy args.key args.dummy args.c.c1 args.c.c2 in
+    let o = outcome_by args.key args.dummy args.c.c1 args.c.c2 in
+    let w = quotients_by args.key args.dummy args.c.c1 args.c.c2 in
     let found = made.decapsulate.ensures in
     let last = c.before.before.before.unless.ensures ∙ ap (λ (d : Decapsulation). unless d.found DecapsulationFailure Done) found ∙ found-answer w o in (
       c.and-then3.ensures
-          ∙ ap (andThen args.key.answer)
-          (c.before.and-then2.ensures ∙ ap (andThen args.c.answer) (c.before.before.and_then.ensures ∙ ap (andThen args.codes) last)),
-      ap (λ (d : Decapsulation). asTriple d.triple) found ∙ found-triple w o,
+          ∙ ap (and_then args.key.answer)
+          (c.before.and-then2.ensures ∙ ap (and_then args.c.answer) (c.before.before.and_then.ensures ∙ ap (and_then args.codes) last)),
+      ap (λ (d : Decapsulation). as_triple d.triple) found ∙ found_triple w o,
     )
 
 pub find-triple-spec : {M : Type 1} → statement M

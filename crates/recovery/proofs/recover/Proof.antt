@@ -3,12 +3,12 @@ use mathlib.Core.Bool.{Bool}
 use mathlib.Core.List.{◌++◌}
 use Rattle.scheme.specs.Scheme.{Triple}
 use Rattle.scheme.specs.declared.Decapsulation.{Decapsulation}
-use Rattle.derivation.specs.Derivation.{genuine?}
+use Rattle.derivation.specs.Derivation.{is_genuine}
 use Rattle.answers.specs.declared.Refusal.TheVariants.{DecapsulationFailure, TagMismatch}
 use Rattle.answers.specs.declared.Answer.TheVariants.{Done}
-use Rattle.answers.specs.Answers.{unless, andThen}
-use Rattle.recovery.specs.Outcomes.{asTriple, outcomeBy, quotientsBy, tripleKey0}
-use Rattle.recovery.proofs.Laws.{found-answer, found-triple, found-quotients, verified-answer}
+use Rattle.answers.specs.Answers.{unless, and_then}
+use Rattle.recovery.specs.Outcomes.{as_triple, outcome_by, quotients_by, triple_key0}
+use Rattle.recovery.proofs.Laws.{found-answer, found_triple, found-quotients, verified-answer}
 use borrow.Author.Rules.{rules}
 use Rattle.recovery.proofs.recover.Statement.{statement}
 use Rattle.recovery.proofs.recover.Tie as tie
@@ -42,18 +42,18 @@ returns c =
     let args = made.before.before.before.before.before.before.before.before.before.before.before.args in
     let blocks = args.front.now ++ args.body.now in
     let tag = args.tag in
-    let o = outcomeBy args.key args.dummy args.c.c1 args.c.c2 in
-    let w = quotientsBy args.key args.dummy args.c.c1 args.c.c2 in
+    let o = outcome_by args.key args.dummy args.c.c1 args.c.c2 in
+    let w = quotients_by args.key args.dummy args.c.c1 args.c.c2 in
     let found = made.decapsulate.ensures in
-    let t = ap (λ (d : Decapsulation). asTriple d.triple) found ∙ found-triple w o in
-    let genuine = verified.verify.ensures.0 ∙ ap (λ (x : Triple). genuine? x.r x.e1 x.e2 blocks tag) t in
+    let t = ap (λ (d : Decapsulation). as_triple d.triple) found ∙ found_triple w o in
+    let genuine = verified.verify.ensures.0 ∙ ap (λ (x : Triple). is_genuine x.r x.e1 x.e2 blocks tag) t in
     let first = tested.unless.ensures ∙ ap (λ (d : Decapsulation). unless d.found DecapsulationFailure Done) found ∙ found-answer w o in
     let second = c.before.before.before.before.unless2.ensures ∙ ap (λ (x : Bool). unless x TagMismatch Done) genuine in (
       c.and-then3.ensures
-          ∙ ap (andThen args.key.answer)
+          ∙ ap (and_then args.key.answer)
           (c.before.and-then2.ensures
-          ∙ ap (andThen args.c.answer) (c.before.before.and_then.ensures ∙ ap₂ andThen first second ∙ verified-answer o blocks tag)),
-      (verified.verify.ensures.1 ∙ ap tripleKey0 t, ap (λ (d : Decapsulation). d.quotients) found ∙ found-quotients w o),
+          ∙ ap (and_then args.c.answer) (c.before.before.and_then.ensures ∙ ap₂ and_then first second ∙ verified-answer o blocks tag)),
+      (verified.verify.ensures.1 ∙ ap triple_key0 t, ap (λ (d : Decapsulation). d.quotients) found ∙ found-quotients w o),
     )
 
 pub recover-spec : {M : Type 1} → statement M

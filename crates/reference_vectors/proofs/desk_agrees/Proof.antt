@@ -7,9 +7,9 @@ use lib.ListN.{length}
 use Rattle.answers.specs.declared.Location.{Location}
 use Rattle.answers.specs.Answers.{number}
 use Rattle.answers.specs.Locations.{location}
-use Rattle.location_text.specs.Words.{locationText}
-use Rattle.vectors.specs.Answers.{same?}
-use Rattle.desk_opening.specs.Input.{deskAnswer}
+use Rattle.location_text.specs.Words.{location_text}
+use Rattle.vectors.specs.Answers.{is_same}
+use Rattle.desk_opening.specs.Input.{desk_answer}
 use borrow.Author.Rules.{rules}
 use Rattle.reference_vectors.proofs.desk_agrees.Statement.{statement}
 use Rattle.reference_vectors.proofs.desk_agrees.Tie as tie
@@ -45,10 +45,10 @@ returns c =
     let told = words.before in
     let numbered = told.before in
     let opened = numbered.before in
-    let answer-is = opened.answer.ensures ∙ ap deskAnswer opened.before.field.ensures in
+    let answer-is = opened.answer.ensures ∙ ap desk_answer opened.before.field.ensures in
     let none = ap (λ (l : List ℕ). eqb (length l) 0) words.field2.ensures in
     let place = located.before.locate.ensures ∙ ap location answer-is in
-    let same = located.is-located.ensures ∙ ap₂ (λ (l : Location) (w : List ℕ). same? (locationText l) w) place words.field2.ensures in
+    let same = located.is-located.ensures ∙ ap₂ (λ (l : Location) (w : List ℕ). is_same (location_text l) w) place words.field2.ensures in
     ap₂ ◌&&◌
     (ap₂ ◌&&◌ (ap₂ eqb (numbered.number.ensures ∙ ap number answer-is) told.number2.ensures) (ap₂ ◌||◌ none same))
     c.line-agrees.ensures

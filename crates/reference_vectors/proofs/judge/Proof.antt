@@ -1,7 +1,7 @@
 use mathlib.Core.Path.{ap, ap₂, ◌∙◌}
 use Prim.Native.Nat.{ℕ}
-use Rattle.vectors.specs.Fields.{hasField}
-use Rattle.vectors.specs.Answers.{verdictOf}
+use Rattle.vectors.specs.Fields.{has_field}
+use Rattle.vectors.specs.Answers.{verdict_of}
 use Rattle.reference_vectors.specs.Cases.{verdict}
 use borrow.Author.Rules.{rules}
 use Rattle.reference_vectors.proofs.judge.Statement.{statement}
@@ -24,8 +24,8 @@ unfolding verdict
 returns c =
     let tested = c.before.before in
     let text = tested.before.before.before.args.text.now in
-    let whole = tested.has-field.ensures ∙ ap (λ (k : ℕ). hasField k text) tested.before.last-field.ensures.0 in
-    c.judged.ensures ∙ ap₂ verdictOf whole c.before.agrees.ensures
+    let whole = tested.has-field.ensures ∙ ap (λ (k : ℕ). has_field k text) tested.before.last-field.ensures.0 in
+    c.judged.ensures ∙ ap₂ verdict_of whole c.before.agrees.ensures
 
 pub judge-spec : {M : Type 1} → statement M
 judge-spec =

@@ -3,7 +3,7 @@ use Prim.Native.Nat.{ℕ, ◌+◌, ◌-◌}
 use lib.ListN.{length}
 use Rattle.vectors.specs.declared.Report.TheVariants.{Counts}
 use Rattle.vectors.specs.Answers.{counted, report}
-use Rattle.vectors.proofs.Counts.{Counted, counted_none, counted-more, counted-all}
+use Rattle.vectors.proofs.Counts.{Counted, counted_none, counted_more, counted_all}
 use Rattle.reference_vectors.specs.Cases.{verdict}
 use borrow.Author.Rules.{rules}
 use Rattle.reference_vectors.proofs.judge_cases.Statement.{statement}
@@ -49,13 +49,13 @@ loop-again : tie.Need-loop-preserved invariant-loop decreases-loop
 loop-again c =
     let judged = c.before.before in
     let turn = judged.before.before in
-    counted-more turn.before.loop.invariant turn.loop-test.true judged.judge.ensures c.before.counted.ensures c.after-case.ensures
+    counted_more turn.before.loop.invariant turn.loop-test.true judged.judge.ensures c.before.counted.ensures c.after-case.ensures
 
 returns : tie.Need-returns invariant-loop decreases-loop
 returns c =
     let last = c.before.before in
     let args = last.before.before.args in
-    counted-all c.before.loop.invariant c.loop-test.false
+    counted_all c.before.loop.invariant c.loop-test.false
     ∙ ap (λ (k : ℕ). report (verdict args.kind) (k + 1) args.text.now) last.last-field.ensures.0
 
 pub judge-cases-spec : {M : Type 1} → statement M

@@ -1,7 +1,7 @@
 use mathlib.Core.Path.{sym, ap, ◌∙◌}
 use Prim.Native.Nat.{ℕ, ◌+◌}
 use native.Mathlib.Omega.{arith}
-use Rattle.reference_vectors.specs.Cases.{lastField}
+use Rattle.reference_vectors.specs.Cases.{last_field}
 use borrow.Author.Rules.{rules}
 use Rattle.reference_vectors.proofs.last_field.Statement.{statement}
 use Rattle.reference_vectors.proofs.last_field.Tie as tie
@@ -42,7 +42,7 @@ returns-2 c = search rules
 returns-3 : tie.Need-returns-3
 returns-3 c =
     let field = ap (λ (k : ℕ). k + 3) c.size-field.ensures.0 in
-    (field ∙ sym (ap lastField c.before.before.kind.given.1), omega (arith, c.size-field.ensures.1))
+    (field ∙ sym (ap last_field c.before.before.kind.given.1), omega (arith, c.size-field.ensures.1))
 
 returns-4 : tie.Need-returns-4
 returns-4 c = search rules

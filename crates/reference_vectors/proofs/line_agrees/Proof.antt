@@ -4,10 +4,10 @@ use Prim.Native.Nat.{ℕ, ◌-◌, ◌≤◌}
 use native.Mathlib.Nat.{sub-zero}
 use native.Mathlib.Omega.{arith}
 use lib.ListN.{length}
-use Rattle.desk_line.specs.Line.{deskLine}
-use Rattle.vectors.specs.Answers.{same?}
-use Rattle.reference_vectors.specs.Cases.{withoutFeed}
-use Rattle.reference_vectors.proofs.Agreement.{line-text, line-some}
+use Rattle.desk_line.specs.Line.{desk_line}
+use Rattle.vectors.specs.Answers.{is_same}
+use Rattle.reference_vectors.specs.Cases.{without_feed}
+use Rattle.reference_vectors.proofs.Agreement.{line_text, line-some}
 use borrow.Author.Rules.{rules}
 use Rattle.reference_vectors.proofs.line_agrees.Statement.{statement}
 use Rattle.reference_vectors.proofs.line_agrees.Tie as tie
@@ -46,12 +46,12 @@ returns c =
     let made = c.before.before.before.before.before.before in
     let line = made.line in
     let input = made.before.field.ensures in
-    let told : List ℕ = deskLine made.before.field.result.now in
+    let told : List ℕ = desk_line made.before.field.result.now in
     let room : length told ≤ 35 = omega (arith, line.ensures.1.0, line.ensures.1.1) in
     let found =
-    line-text told line.result.bytes _ line.ensures.0 room (sub-zero (line.result.length - 1) ∙ ap (λ (k : ℕ). k - 1) line.ensures.1.0)
-    ∙ ap (λ (l : List ℕ). withoutFeed (deskLine l)) input in
-    c.same.ensures ∙ ap₂ same? found c.before.field2.ensures
+    line_text told line.result.bytes _ line.ensures.0 room (sub-zero (line.result.length - 1) ∙ ap (λ (k : ℕ). k - 1) line.ensures.1.0)
+    ∙ ap (λ (l : List ℕ). without_feed (desk_line l)) input in
+    c.same.ensures ∙ ap₂ is_same found c.before.field2.ensures
 
 pub line-agrees-spec : {M : Type 1} → statement M
 line-agrees-spec =

@@ -4,8 +4,8 @@ use mathlib.Core.List.{List}
 use Prim.Native.Nat.{ℕ}
 use lib.Dec.{eqb}
 use lib.ListN.{get_or}
-use Rattle.sampling.specs.Noise.{ternaryNoise}
-use Rattle.reference_vectors.specs.Cases.{residueOf}
+use Rattle.sampling.specs.Noise.{ternary_noise}
+use Rattle.reference_vectors.specs.Cases.{residue_of}
 use borrow.Author.Rules.{rules}
 use Rattle.reference_vectors.proofs.noise_agrees.Statement.{statement}
 use Rattle.reference_vectors.proofs.noise_agrees.Tie as tie
@@ -37,8 +37,8 @@ returns c =
     let drawn = told.before in
     ap₂ ◌&&◌ (ap (λ (k : ℕ). eqb k 0) told.number.ensures)
     (ap₂ eqb
-    (ap (λ (p : List ℕ). get_or p 0 0) (drawn.ternary.ensures ∙ ap ternaryNoise drawn.before.field.ensures))
-    (c.residue.ensures ∙ ap residueOf c.before.number2.ensures))
+    (ap (λ (p : List ℕ). get_or p 0 0) (drawn.ternary.ensures ∙ ap ternary_noise drawn.before.field.ensures))
+    (c.residue.ensures ∙ ap residue_of c.before.number2.ensures))
 
 pub noise-agrees-spec : {M : Type 1} → statement M
 noise-agrees-spec =

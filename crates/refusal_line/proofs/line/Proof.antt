@@ -1,7 +1,7 @@
 use mathlib.Core.List.{[], ◌∷◌}
 use Rattle.lists.specs.Table.{zeros}
 use Rattle.text.specs.Text.{decimal}
-use Rattle.text.proofs.Texts.{put-none, put-more}
+use Rattle.text.proofs.Texts.{put_none, put_more}
 use Rattle.refusal_line.proofs.Lines.{refusal-put}
 use borrow.Author.Rules.{rules}
 use Rattle.refusal_line.proofs.line.Statement.{statement}
@@ -46,8 +46,8 @@ returns-2 : tie.Need-returns-2
 returns-2 c =
     let made = c.before.before.before.before.before in
     let told = made.before.before.before in
-    let digits = put-more (decimal made.before.number.result) (put-none (zeros 21)) made.put-decimal.ensures.0 made.put-decimal.ensures.1 in
-    let all = put-more (10 ∷ []) digits c.before.put.ensures.0 c.before.put.ensures.1 in
+    let digits = put_more (decimal made.before.number.result) (put_none (zeros 21)) made.put-decimal.ensures.0 made.put-decimal.ensures.1 in
+    let all = put_more (10 ∷ []) digits c.before.put.ensures.0 c.before.put.ensures.1 in
     refusal-put told.before.before.args.answer told.enum-told2.given.1 made.before.number.ensures all
 
 pub line-spec : {M : Type 1} → statement M

@@ -1,9 +1,9 @@
 use mathlib.Core.Path.{ap, ap₂, ◌∙◌}
 use mathlib.Core.Bool.{◌&&◌}
 use mir.Syntax.{w16, w32}
-use Rattle.ring.specs.Centred.{centredRemainder, centredQuotient}
+use Rattle.ring.specs.Centred.{centred_remainder, centred_quotient}
 use Rattle.ring.proofs.SignedValues.{read_back, widened-fits}
-use Rattle.remainder_cases.proofs.Words.{compared-as}
+use Rattle.remainder_cases.proofs.Words.{compared_as}
 use borrow.Author.Rules.{rules}
 use Rattle.remainder_cases.proofs.integers_agree.Statement.{statement}
 use Rattle.remainder_cases.proofs.integers_agree.Tie as tie
@@ -58,16 +58,16 @@ returns c =
     let fits = told.struct_told.given in
     let m-read = read_back w16 m.result m.type-inv in
     let m-is = m-read ∙ m.ensures in
-    let r-is = read_back w16 d.result.remainder fits.0.1 ∙ d.ensures.0 ∙ ap centredRemainder m-is in
-    let k-is = read_back w16 d.result.quotient fits.1.0.1 ∙ d.ensures.1 ∙ ap centredQuotient m-is in
+    let r_is = read_back w16 d.result.remainder fits.0.1 ∙ d.ensures.0 ∙ ap centred_remainder m-is in
+    let k-is = read_back w16 d.result.quotient fits.1.0.1 ∙ d.ensures.1 ∙ ap centred_quotient m-is in
     let m-told = first.before.signed in
     let r-told = second.before.signed2 in
     let k-told = c.before.signed3 in
     ap₂ ◌&&◌
     (ap₂ ◌&&◌
-    (compared-as _ (widened-fits w16 w32 m.result tt m.type-inv) (record { sfits = m-told.type-inv }) m-is m-told.ensures first.same-integers.ensures)
-    (compared-as _ (widened-fits w16 w32 d.result.remainder tt fits.0.1) (record { sfits = r-told.type-inv }) r-is r-told.ensures second.same-integers2.ensures))
-    (compared-as _ (widened-fits w16 w32 d.result.quotient tt fits.1.0.1) (record { sfits = k-told.type-inv }) k-is k-told.ensures c.same-integers3.ensures)
+    (compared_as _ (widened-fits w16 w32 m.result tt m.type-inv) (record { sfits = m-told.type-inv }) m-is m-told.ensures first.same-integers.ensures)
+    (compared_as _ (widened-fits w16 w32 d.result.remainder tt fits.0.1) (record { sfits = r-told.type-inv }) r_is r-told.ensures second.same-integers2.ensures))
+    (compared_as _ (widened-fits w16 w32 d.result.quotient tt fits.1.0.1) (record { sfits = k-told.type-inv }) k-is k-told.ensures c.same-integers3.ensures)
 
 pub integers-agree-spec : {M : Type 1} → statement M
 integers-agree-spec =

@@ -1,5 +1,5 @@
 use Rattle.text.specs.Text.{decimal}
-use Rattle.report_line.specs.Line.{countsText}
+use Rattle.report_line.specs.Line.{counts_text}
 use Rattle.report_line.proofs.Lines.{put_both}
 use borrow.Author.Rules.{rules}
 use Rattle.report_line.proofs.put_counts.Statement.{statement}
@@ -27,7 +27,7 @@ same_length : tie.Need-same-length
 same_length c = search rules
 
 returns : tie.Need-returns
-unfolding countsText
+unfolding counts_text
 returns c =
     let fourth = c.before.before in
     let third = fourth.before.before.before.before.before in

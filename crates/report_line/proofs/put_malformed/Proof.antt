@@ -1,5 +1,5 @@
 use Rattle.text.specs.Text.{decimal}
-use Rattle.report_line.specs.Line.{malformedText}
+use Rattle.report_line.specs.Line.{malformed_text}
 use Rattle.report_line.proofs.Lines.{put_both}
 use borrow.Author.Rules.{rules}
 use Rattle.report_line.proofs.put_malformed.Statement.{statement}
@@ -21,7 +21,7 @@ same_length : tie.Need-same-length
 same_length c = search rules
 
 returns : tie.Need-returns
-unfolding malformedText
+unfolding malformed_text
 returns c =
     let third = c.before.before in
     let second = third.before.before.before.before in

@@ -2,9 +2,9 @@ use mathlib.Core.Path.{sym, ap, ◌∙◌}
 use Prim.Native.Nat.{ℕ, ◌+◌, ◌≤◌}
 use native.Mathlib.Omega.{arith}
 use lib.ListN.{length, drop, drop_of_length-le}
-use Rattle.lists.specs.First.{firstFailing}
+use Rattle.lists.specs.First.{first_failing}
 use Rattle.lists.proofs.Parts.{take-to-end}
-use Rattle.response_files.specs.Lines.{inLine, afterLine}
+use Rattle.response_files.specs.Lines.{in_line, after_line}
 use borrow.Author.Rules.{rules}
 use Rattle.response_files.proofs.after_line.Statement.{statement}
 use Rattle.response_files.proofs.after_line.Tie as tie
@@ -25,7 +25,7 @@ part-result-end : tie.Need-slice-bounds-result-end
 part-result-end c = search rules
 
 returns : tie.Need-returns
-unfolding afterLine
+unfolding after_line
 returns c =
     let n = c.before.before.line-feed.result in
     let text = c.before.before.before.before.args.text.now in
@@ -41,11 +41,11 @@ part-result-end-2 : tie.Need-slice-bounds-result-end-2
 part-result-end-2 c = search rules
 
 returns-2 : tie.Need-returns-2
-unfolding afterLine
+unfolding after_line
 returns-2 c =
     let called = c.before.before in
     let text = called.before.before.args.text.now in
-    let past : length text ≤ firstFailing inLine text + 1 = omega (arith, called.line-feed.ensures) in
+    let past : length text ≤ first_failing in_line text + 1 = omega (arith, called.line-feed.ensures) in
     sym (drop_of_length-le text past)
 
 pub after-line-spec : {M : Type 1} → statement M

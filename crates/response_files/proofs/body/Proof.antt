@@ -2,7 +2,7 @@ use mathlib.Core.Path.{◌≡◌, refl, sym, ◌∙◌}
 use native.Mathlib.Omega.{arith}
 use lib.ListN.{length}
 use Rattle.response_files.specs.Lines.{lines}
-use Rattle.response_files.specs.Headers.{bodyFrom}
+use Rattle.response_files.specs.Headers.{body_from}
 use Rattle.response_files.proofs.Lines.{after-within}
 use Rattle.response_files.proofs.Headers.{preamble-some, body_more, body-here}
 use borrow.Author.Rules.{rules}
@@ -10,7 +10,7 @@ use Rattle.response_files.proofs.body.Statement.{statement}
 use Rattle.response_files.proofs.body.Tie as tie
 
 abbrev invariant-loop : tie.invariant-loop
-invariant-loop text rest₀ rest = bodyFrom (lines rest) ≡ bodyFrom (lines text)
+invariant-loop text rest₀ rest = body_from (lines rest) ≡ body_from (lines text)
 
 abbrev decreases-loop : tie.decreases-loop
 decreases-loop text rest₀ rest = length rest

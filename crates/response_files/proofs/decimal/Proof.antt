@@ -3,8 +3,8 @@ use mathlib.Core.Bool.{true, false}
 use Prim.Native.Nat.{◌-◌, ◌<◌, ◌≤◌}
 use native.Mathlib.Omega.{arith}
 use lib.ListN.{length, get_or, drop}
-use Rattle.response_files.specs.Fields.{decimalOf, continued, grows}
-use Rattle.response_files.proofs.Numbers.{grows-digit, no-digit-below, no-digit-above, too_large, decimal-none, decimal-some, continued-more, continued-stop, continued-end}
+use Rattle.response_files.specs.Fields.{decimal_of, continued, grows}
+use Rattle.response_files.proofs.Numbers.{grows_digit, no_digit-below, no_digit-above, too_large, decimal_none, decimal-some, continued_more, continued-stop, continued_end}
 use mathlib.Core.Logic.{⊎_elim}
 use borrow.Author.Tests.{ltb-true, ltb-false, leb-true, leb-false}
 use borrow.Author.Rules.{rules}
@@ -12,13 +12,13 @@ use Rattle.response_files.proofs.decimal.Statement.{statement}
 use Rattle.response_files.proofs.decimal.Tie as tie
 
 abbrev invariant-loop : tie.invariant-loop
-invariant-loop text n₀ i₀ n i = (i ≤ length text) × (n < 1000000000) × (decimalOf text ≡ continued n (drop i text))
+invariant-loop text n₀ i₀ n i = (i ≤ length text) × (n < 1000000000) × (decimal_of text ≡ continued n (drop i text))
 
 abbrev decreases-loop : tie.decreases-loop
 decreases-loop text n₀ i₀ n i = length text - i
 
 returns : tie.Need-returns invariant-loop decreases-loop
-returns c = sym (decimal-none _ c.if1.true)
+returns c = sym (decimal_none _ c.if1.true)
 
 loop-holds : tie.Need-loop-init invariant-loop decreases-loop
 loop-holds c = (omega arith, omega arith, decimal-some _ c.if1.false)
@@ -35,9 +35,9 @@ returns-2 c =
     let h : i < length text = omega arith in
     let g : grows n (get_or text i 0) ≡ false =
     ⊎_elim
-    (λ w. no-digit-below n (get_or text i 0) w.taken)
+    (λ w. no_digit-below n (get_or text i 0) w.taken)
     (⊎_elim
-    (λ w. no-digit-above n (get_or text i 0) (omega (arith, w.0.left)) (omega (arith, ltb-true, w.1.taken)))
+    (λ w. no_digit-above n (get_or text i 0) (omega (arith, w.0.left)) (omega (arith, ltb-true, w.1.taken)))
     (λ w. too_large n (get_or text i 0) (omega (arith, w.0.left)) (omega (arith, ltb-false, w.1.left)) (omega (arith, leb-true, w.2.taken))))
     c.if2.branch in
     sym (at-loop.loop.invariant.2 ∙ continued-stop n text i h g)
@@ -63,11 +63,11 @@ loop-again c =
     let i = at-loop.loop.i in
     let n = at-loop.loop.n in
     let text = at-loop.before.before.args.text.now in
-    let g : grows n (get_or text i 0) ≡ true = grows-digit n (get_or text i 0) (omega arith) (omega (arith, ltb-false)) (omega (arith, leb-false)) in
-    (omega arith, omega (arith, ltb-false, leb-false), at-loop.loop.invariant.2 ∙ continued-more n text i (omega arith) g)
+    let g : grows n (get_or text i 0) ≡ true = grows_digit n (get_or text i 0) (omega arith) (omega (arith, ltb-false)) (omega (arith, leb-false)) in
+    (omega arith, omega (arith, ltb-false, leb-false), at-loop.loop.invariant.2 ∙ continued_more n text i (omega arith) g)
 
 returns-3 : tie.Need-returns-3 invariant-loop decreases-loop
-returns-3 c = sym (c.before.loop.invariant.2 ∙ continued-end _ _ _ c.loop-test.false)
+returns-3 c = sym (c.before.loop.invariant.2 ∙ continued_end _ _ _ c.loop-test.false)
 
 pub decimal-spec : {M : Type 1} → statement M
 decimal-spec =

@@ -3,9 +3,9 @@ use Prim.Native.Nat.{ℕ}
 use native.Mathlib.Omega.{arith}
 use lib.ListN.{take}
 use lib.Seq.{length-take-le}
-use Rattle.lists.specs.First.{firstFailing}
-use Rattle.response_files.specs.Lines.{inLine, withoutReturn}
-use Rattle.response_files.proofs.Lines.{line-there, line-none}
+use Rattle.lists.specs.First.{first_failing}
+use Rattle.response_files.specs.Lines.{in_line, without_return}
+use Rattle.response_files.proofs.Lines.{line_there, line_none}
 use borrow.Author.Rules.{rules}
 use Rattle.response_files.proofs.first_line.Statement.{statement}
 use Rattle.response_files.proofs.first_line.Tie as tie
@@ -23,8 +23,8 @@ returns : tie.Need-returns
 returns c =
     let found = c.before.before.before in
     let text = found.before.before.args.text.now in
-    let e : found.line-feed.result ≡ firstFailing inLine text = found.line-feed.ensures in
-    c.without-return.ensures ∙ ap (λ (k : ℕ). withoutReturn (take k text)) e ∙ sym (line-there text (omega arith))
+    let e : found.line-feed.result ≡ first_failing in_line text = found.line-feed.ensures in
+    c.without-return.ensures ∙ ap (λ (k : ℕ). without_return (take k text)) e ∙ sym (line_there text (omega arith))
 
 sub-result : tie.Need-overflow-sub-result
 sub-result c = search rules
@@ -38,7 +38,7 @@ part-result-end c = search rules
 returns-2 : tie.Need-returns-2
 returns-2 c =
     let found = c.before.before in
-    sym (line-none found.before.before.args.text.now (omega (arith, found.line-feed.ensures)))
+    sym (line_none found.before.before.args.text.now (omega (arith, found.line-feed.ensures)))
 
 pub first-line-spec : {M : Type 1} → statement M
 first-line-spec =

@@ -2,7 +2,7 @@ use mathlib.Core.Path.{◌≡◌, refl, sym, ◌∙◌}
 use native.Mathlib.Omega.{arith}
 use lib.ListN.{length}
 use Rattle.response_files.specs.Lines.{lines}
-use Rattle.response_files.specs.Headers.{numberFrom}
+use Rattle.response_files.specs.Headers.{number_from}
 use Rattle.response_files.proofs.Lines.{after-within}
 use Rattle.response_files.proofs.Headers.{preamble-some, number_more, number-here}
 use borrow.Author.Rules.{rules}
@@ -10,7 +10,7 @@ use Rattle.response_files.proofs.header_number.Statement.{statement}
 use Rattle.response_files.proofs.header_number.Tie as tie
 
 abbrev invariant-loop : tie.invariant-loop
-invariant-loop text name rest₀ number₀ rest number = numberFrom name number (lines rest) ≡ numberFrom name 0 (lines text)
+invariant-loop text name rest₀ number₀ rest number = number_from name number (lines rest) ≡ number_from name 0 (lines text)
 
 abbrev decreases-loop : tie.decreases-loop
 decreases-loop text name rest₀ number₀ rest number = length rest
@@ -42,7 +42,7 @@ loop-again c =
     let rest = tested.before.loop.rest.now in
     let name = tested.before.before.before.before.args.name.now in
     let more = number_more rest (sym tested.is-preamble.ensures ∙ c.before.before.before.if1.true) name tested.before.loop.number in
-    rw (c.after_Line.ensures, c.before.number-or.ensures, c.before.before.length-header.ensures) (sym more ∙ tested.before.loop.invariant)
+    rw (c.after_Line.ensures, c.before.number-or.ensures, c.before.before.length_header_lem.ensures) (sym more ∙ tested.before.loop.invariant)
 
 returns : tie.Need-returns invariant-loop decreases-loop
 returns c =

@@ -1,5 +1,5 @@
 use mathlib.Core.Path.{sym, ap, ◌∙◌}
-use Rattle.response_files.specs.Fields.{decimalOf}
+use Rattle.response_files.specs.Fields.{decimal_of}
 use borrow.Author.Rules.{rules}
 use Rattle.response_files.proofs.is_count.Statement.{statement}
 use Rattle.response_files.proofs.is_count.Tie as tie
@@ -22,12 +22,12 @@ enum_told c = search rules
 returns : tie.Need-returns
 returns c =
     let read = c.before.before in
-    rw (sym (read.decimal.ensures ∙ ap decimalOf read.before.value.ensures) ∙ c.enum_told.given.1)
+    rw (sym (read.decimal.ensures ∙ ap decimal_of read.before.value.ensures) ∙ c.enum_told.given.1)
 
 returns-2 : tie.Need-returns-2
 returns-2 c =
     let read = c.before.before.before in
-    rw (sym (read.decimal.ensures ∙ ap decimalOf read.before.value.ensures) ∙ c.before.n.given.1)
+    rw (sym (read.decimal.ensures ∙ ap decimal_of read.before.value.ensures) ∙ c.before.n.given.1)
 
 pub is-count-spec : {M : Type 1} → statement M
 is-count-spec =

@@ -1,5 +1,5 @@
 use mathlib.Core.Path.{ap, ◌∙◌}
-use Rattle.response_files.specs.Fields.{decimalOf, wholeBytes}
+use Rattle.response_files.specs.Fields.{decimal_of, whole_bytes}
 use borrow.Author.Rules.{rules}
 use Rattle.response_files.proofs.length_field.Statement.{statement}
 use Rattle.response_files.proofs.length_field.Tie as tie
@@ -14,7 +14,7 @@ whole-bytes-requires : tie.Need-whole-bytes-requires
 whole-bytes-requires c κs = search rules
 
 returns : tie.Need-returns
-returns c = c.whole-bytes.ensures ∙ ap wholeBytes (c.before.decimal.ensures ∙ ap decimalOf c.before.before.value.ensures)
+returns c = c.whole-bytes.ensures ∙ ap whole_bytes (c.before.decimal.ensures ∙ ap decimal_of c.before.before.value.ensures)
 
 pub length-field-spec : {M : Type 1} → statement M
 length-field-spec =

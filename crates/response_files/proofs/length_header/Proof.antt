@@ -4,8 +4,8 @@ use Prim.Native.Nat.{ℕ, ◌-◌}
 use native.Mathlib.Omega.{arith}
 use lib.ListN.{length, take}
 use lib.Seq.{length-take-le}
-use Rattle.response_files.specs.Fields.{decimalOf, wholeBytes}
-use Rattle.response_files.proofs.Headers.{header-none}
+use Rattle.response_files.specs.Fields.{decimal_of, whole_bytes}
+use Rattle.response_files.proofs.Headers.{header_none}
 use borrow.Author.Rules.{rules}
 use Rattle.response_files.proofs.length_header.Statement.{statement}
 use Rattle.response_files.proofs.length_header.Tie as tie
@@ -17,7 +17,7 @@ returns : tie.Need-returns
 returns c =
     let text = c.before.before.before.before.args.text.now in
     let name = c.before.before.before.before.args.name.now in
-    sym (header-none name text (omega (arith, ap length c.before.value.ensures)))
+    sym (header_none name text (omega (arith, ap length c.before.value.ensures)))
 
 sub-decimal : tie.Need-overflow-sub-decimal
 sub-decimal c = search rules
@@ -34,8 +34,8 @@ whole-bytes-requires c κs = search rules
 returns-2 : tie.Need-returns-2
 returns-2 c =
     c.whole-bytes.ensures
-    ∙ ap wholeBytes
-    (c.before.decimal.ensures ∙ ap (λ (v : List ℕ). decimalOf (take (length v - 1) v)) c.before.before.before.before.value.ensures)
+    ∙ ap whole_bytes
+    (c.before.decimal.ensures ∙ ap (λ (v : List ℕ). decimal_of (take (length v - 1) v)) c.before.before.before.before.value.ensures)
 
 pub length-header-spec : {M : Type 1} → statement M
 length-header-spec =

@@ -5,7 +5,7 @@ use native.Mathlib.Omega.{arith}
 use lib.ListN.{length, take, length-take}
 use borrow.Author.Tests.{eq-eqb, ne_eqb}
 use Rattle.response_files.specs.Lines.{feeds, line_at}
-use Rattle.response_files.proofs.Lines.{feeds-within, feeds-more}
+use Rattle.response_files.proofs.Lines.{feeds-within, feeds_more}
 use borrow.Author.Rules.{rules}
 use Rattle.response_files.proofs.line_number.Statement.{statement}
 use Rattle.response_files.proofs.line_number.Tie as tie
@@ -44,7 +44,7 @@ loop-again c =
     let at-loop = c.before.before.before in
     let i = at-loop.loop.i in
     let text = at-loop.before.args.text.now in
-    let more = feeds-more i text (omega arith) in
+    let more = feeds_more i text (omega arith) in
     let line : c.if1.line ≡ 1 + feeds (take (i + 1) text) =
     ⊎_elim
     (λ w. omega (arith, w.1, rw (eq-eqb _ 10 w.0.taken) at more))

@@ -3,7 +3,7 @@ use native.Mathlib.Omega.{arith}
 use lib.Dec.{eqb}
 use lib.ListN.{length}
 use borrow.Author.Tests.{eqb-true, eq-eqb}
-use Rattle.response_files.proofs.Hex.{hex-test, not-hex}
+use Rattle.response_files.proofs.Hex.{hex_test, not_hex}
 use borrow.Author.Rules.{rules}
 use Rattle.response_files.proofs.read_hex.Statement.{statement}
 use Rattle.response_files.proofs.read_hex.Tie as tie
@@ -17,7 +17,7 @@ same_length c = search rules
 returns : tie.Need-returns
 returns c =
     let called = c.before.before.before in
-    (not-hex _ _ _ _ called.decode.ensures.0 (λ o s. omega arith), called.decode.ensures.1)
+    (not_hex _ _ _ _ called.decode.ensures.0 (λ o s. omega arith), called.decode.ensures.1)
 
 same-length-2 : tie.Need-same-length-2
 same-length-2 c = search rules
@@ -25,7 +25,7 @@ same-length-2 c = search rules
 returns-2 : tie.Need-returns-2
 returns-2 c =
     let called = c.before.before.before.before in
-    (not-hex _ _ _ _ called.decode.ensures.0 (λ o s. c.if2.true s), called.decode.ensures.1)
+    (not_hex _ _ _ _ called.decode.ensures.0 (λ o s. c.if2.true s), called.decode.ensures.1)
 
 mul-result : tie.Need-overflow-mul-result
 mul-result c = search rules
@@ -38,7 +38,7 @@ returns-3 c =
     let called = c.before.before.before.before in
     let text = called.before.before.before.before.args.text.now in
     let n = called.decode.result in (
-      hex-test _ _ _ n called.decode.ensures.0 (eqb (length text) (2 * n))
+      hex_test _ _ _ n called.decode.ensures.0 (eqb (length text) (2 * n))
           (λ t. (omega arith, c.if2.false, eqb-true (length text) (2 * n) t))
           (λ o s p. eq-eqb (length text) (2 * n) p),
       called.decode.ensures.1,

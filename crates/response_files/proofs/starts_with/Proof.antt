@@ -2,7 +2,7 @@ use mathlib.Core.Path.{sym}
 use native.Mathlib.Omega.{arith}
 use lib.ListN.{length, take, length-take}
 use lib.Seq.{length-take-le}
-use Rattle.response_files.proofs.Lines.{same-shorter}
+use Rattle.response_files.proofs.Lines.{same_shorter}
 use borrow.Author.Rules.{rules}
 use Rattle.response_files.proofs.starts_with.Statement.{statement}
 use Rattle.response_files.proofs.starts_with.Tie as tie
@@ -11,7 +11,7 @@ returns : tie.Need-returns
 returns c =
     let prefix = c.before.before.before.args.prefix.now in
     let text = c.before.before.before.args.text.now in
-    sym (same-shorter (take (length prefix) text) prefix (omega (arith, length-take (length prefix) text)))
+    sym (same_shorter (take (length prefix) text) prefix (omega (arith, length-take (length prefix) text)))
 
 slice-aggregate-same : tie.Need-slice-aggregate-same
 slice-aggregate-same c = sym (length-take-le _ _ (omega arith))

@@ -3,7 +3,7 @@ use Prim.Native.Nat.{◌≤◌}
 use lib.ListN.{length, drop}
 use mathlib.Core.Bool.{true, false}
 use Rattle.lists.proofs.Parts.{take-to-end}
-use Rattle.response_files.specs.Lines.{line_of, startsWith}
+use Rattle.response_files.specs.Lines.{line_of, starts_with}
 use Rattle.response_files.proofs.Lines.{starts-within, value_there, value_none}
 use borrow.Author.Rules.{rules}
 use Rattle.response_files.proofs.value.Statement.{statement}
@@ -39,7 +39,7 @@ returns c =
     let name = start.args.name.now in
     let text = start.args.text.now in
     let e : line ≡ line_of text = called.before.first-line.ensures in
-    let t : startsWith name (line_of text) ≡ true = rw e at (sym called.starts_with.ensures ∙ c.before.if1.true) in
+    let t : starts_with name (line_of text) ≡ true = rw e at (sym called.starts_with.ensures ∙ c.before.if1.true) in
     take-to-end (length name) line ∙ ap (drop (length name)) e ∙ sym (value_there text name t)
 
 sub-result-2 : tie.Need-overflow-sub-result-2
@@ -59,7 +59,7 @@ returns-2 c =
     let name = start.args.name.now in
     let text = start.args.text.now in
     let e : line ≡ line_of text = called.before.first-line.ensures in
-    let t : startsWith name (line_of text) ≡ false = rw e at (sym called.starts_with.ensures ∙ c.before.if1.false) in
+    let t : starts_with name (line_of text) ≡ false = rw e at (sym called.starts_with.ensures ∙ c.before.if1.false) in
     sym (value_none text name t)
 
 pub value_spec : {M : Type 1} → statement M

@@ -1,7 +1,7 @@
 use mathlib.Core.Path.{◌≡◌, ◌∙◌}
 use lib.ListN.{length}
 use borrow.Author.Rules.{rules}
-use Rattle.ring.proofs.Inverses.{reciprocals-decide}
+use Rattle.ring.proofs.Inverses.{reciprocals_decide}
 use Rattle.ring.proofs.are_inverses.Statement.{statement}
 use Rattle.ring.proofs.are_inverses.Tie as tie
 
@@ -13,7 +13,7 @@ returns c =
     let args = c.before.args in
     let hx : length args.x ≡ 1024 = search rules in
     let hy : length args.y ≡ 1024 = search rules in
-    c.are-reciprocals.ensures ∙ reciprocals-decide args.x args.y hx hy
+    c.are-reciprocals.ensures ∙ reciprocals_decide args.x args.y hx hy
 
 pub are-inverses-spec : {M : Type 1} → statement M
 are-inverses-spec = tie.close (tie.spec are-reciprocals-requires returns)

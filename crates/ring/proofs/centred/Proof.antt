@@ -1,4 +1,4 @@
-use Rattle.ring.proofs.Signed.{centre-low, centre-fits, centre-high}
+use Rattle.ring.proofs.Signed.{centre_low, centre-fits, centre_high}
 use native.Mathlib.Omega.{arith}
 use borrow.Author.Rules.{rules}
 use Rattle.ring.proofs.centred.Statement.{statement}
@@ -8,7 +8,7 @@ cast-result : tie.Need-overflow-cast-result
 cast-result c = record { sfits = omega arith }
 
 returns : tie.Need-returns
-returns c = centre-low c.before.args.c c.if1.true
+returns c = centre_low c.before.args.c c.if1.true
 
 sub-z : tie.Need-overflow-sub-z
 sub-z c = search rules
@@ -20,7 +20,7 @@ sub-result : tie.Need-overflow-sub-result
 sub-result c = centre-fits c.before.args.c c.if1.false
 
 returns-2 : tie.Need-returns-2
-returns-2 c = centre-high c.before.args.c c.if1.false
+returns-2 c = centre_high c.before.args.c c.if1.false
 
 pub centred-spec : {M : Type 1} → statement M
 centred-spec = tie.close (tie.spec cast-result returns sub-z cast-z sub-result returns-2)

@@ -1,5 +1,5 @@
 use lib.Dec.{lit<}
-use Rattle.ring.proofs.Signed.{quotient_fits, lowered-fits, lowered-quotient-fits, raised-fits, raised-quotient-fits, lowered_is, raised_is, kept-is}
+use Rattle.ring.proofs.Signed.{quotient_fits, lowered-fits, lowered-quotient-fits, raised-fits, raised-quotient-fits, lowered_is, raised_is, kept_is}
 use Rattle.ring.proofs.centred_division.Statement.{statement}
 use Rattle.ring.proofs.centred_division.Tie as tie
 
@@ -28,7 +28,7 @@ returns-2 : tie.Need-returns-2
 returns-2 c = raised_is c.before.before.args.m c.before.before.ranges.m c.if2.true
 
 returns-3 : tie.Need-returns-3
-returns-3 c = kept-is c.before.before.args.m c.before.before.ranges.m c.before.if1.false c.if2.false
+returns-3 c = kept_is c.before.before.args.m c.before.before.ranges.m c.before.if1.false c.if2.false
 
 pub centred-division-spec : {M : Type 1} → statement M
 centred-division-spec =

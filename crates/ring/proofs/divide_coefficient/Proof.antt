@@ -1,4 +1,4 @@
-use Rattle.ring.proofs.Signed.{remainder-chain, quotient-chain}
+use Rattle.ring.proofs.Signed.{remainder_chain, quotient_chain}
 use borrow.Author.Rules.{rules}
 use Rattle.ring.proofs.divide_coefficient.Statement.{statement}
 use Rattle.ring.proofs.divide_coefficient.Tie as tie
@@ -18,7 +18,7 @@ returns c =
     let word = divided.before.before.args.c in
     let m = divided.before.centred.ensures in
     let parts = divided.centred-division.ensures in
-    (remainder-chain word m parts c.before.residue.ensures, quotient-chain word m parts)
+    (remainder_chain word m parts c.before.residue.ensures, quotient_chain word m parts)
 
 pub divide-coefficient-spec : {M : Type 1} → statement M
 divide-coefficient-spec =

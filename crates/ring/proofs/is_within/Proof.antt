@@ -5,21 +5,21 @@ use native.Mathlib.Omega.{arith}
 use lib.ListN.{length}
 use borrow.Author.Rules.{rules}
 use borrow.Author.Tests.{not-true, not-false}
-use Rattle.lists.proofs.Scan.{Scanned, scanned-none, scanned-pass, scanned-fail}
+use Rattle.lists.proofs.Scan.{Scanned, scanned_none, scanned_pass, scanned_fail}
 use Rattle.ring.specs.Ring.{n}
-use Rattle.ring.specs.Centred.{near?}
+use Rattle.ring.specs.Centred.{is_near}
 use Rattle.ring.proofs.Scans.{within-scanned}
 use Rattle.ring.proofs.is_within.Statement.{statement}
 use Rattle.ring.proofs.is_within.Tie as tie
 
 abbrev invariant-loop : tie.invariant-loop
-invariant-loop k a all₀ i₀ all i = Scanned (near? k) a all i
+invariant-loop k a all₀ i₀ all i = Scanned (is_near k) a all i
 
 abbrev decreases-loop : tie.decreases-loop
 decreases-loop k a all₀ i₀ all i = n - i
 
 loop-holds : tie.Need-loop-init invariant-loop decreases-loop
-loop-holds c = scanned-none _ _
+loop-holds c = scanned_none _ _
 
 mul-is-near : tie.Need-overflow-mul-is-near invariant-loop decreases-loop
 mul-is-near c = search rules
@@ -43,8 +43,8 @@ loop-again c =
     let size : length at.before.args.t1 ≡ n = search rules in
     let near = sym c.before.is-near.ensures in
     ⊎_elim
-    (λ w. rw w.1 (scanned-fail inv (omega arith) (near ∙ not-true _ w.0.taken)))
-    (λ w. rw w.1 (scanned-pass inv (omega arith) (near ∙ not-false _ w.0.left)))
+    (λ w. rw w.1 (scanned_fail inv (omega arith) (near ∙ not-true _ w.0.taken)))
+    (λ w. rw w.1 (scanned_pass inv (omega arith) (near ∙ not-false _ w.0.left)))
     c.if1.branch
 
 returns : tie.Need-returns invariant-loop decreases-loop

@@ -1,5 +1,5 @@
 use native.Mathlib.Omega.{arith}
-use Rattle.ring.proofs.Signed.{away-fits, away-is, stays, size_word, negative-residue, natural-residue}
+use Rattle.ring.proofs.Signed.{away-fits, away_is, stays, size_word, negative-residue, natural-residue}
 use borrow.Author.Rules.{rules}
 use Rattle.ring.proofs.residue.Statement.{statement}
 use Rattle.ring.proofs.residue.Tie as tie
@@ -10,7 +10,7 @@ sub-k c = away-fits c.before.args.m c.before.ranges.m c.if1.true
 cast-k : tie.Need-overflow-cast-k
 cast-k c =
     let start = c.before in
-    size_word start.args.m start.ranges.m _ (away-is start.args.m start.ranges.m c.if1.true)
+    size_word start.args.m start.ranges.m _ (away_is start.args.m start.ranges.m c.if1.true)
 
 sub-result : tie.Need-overflow-sub-result
 sub-result c = search rules
@@ -18,7 +18,7 @@ sub-result c = search rules
 sub-result-2 : tie.Need-overflow-sub-result-2
 sub-result-2 c =
     let start = c.before in
-    rw (away-is start.args.m start.ranges.m c.if1.true) (omega (arith, start.ranges.m.sfits))
+    rw (away_is start.args.m start.ranges.m c.if1.true) (omega (arith, start.ranges.m.sfits))
 
 returns : tie.Need-returns
 returns c = negative-residue c.before.args.m c.before.ranges.m c.if1.true

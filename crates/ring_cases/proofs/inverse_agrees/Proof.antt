@@ -3,9 +3,9 @@ use mathlib.Core.Bool.{◌&&◌, decide}
 use mathlib.Core.List.{List}
 use Prim.Native.Nat.{ℕ}
 use lib.Dec.{eqb}
-use Rattle.ring.specs.Invertible.{invertible?, inverseOf}
-use Rattle.vectors.specs.Answers.{same?}
-use Rattle.ring_cases.specs.Cases.{inverseNumber}
+use Rattle.ring.specs.Invertible.{is_invertible, inverse_of}
+use Rattle.vectors.specs.Answers.{is_same}
+use Rattle.ring_cases.specs.Cases.{inverse_number}
 use borrow.Author.Rules.{rules}
 use Rattle.ring_cases.proofs.inverse_agrees.Statement.{statement}
 use Rattle.ring_cases.proofs.inverse_agrees.Tie as tie
@@ -33,11 +33,11 @@ returns c =
     let told = c.before.before in
     let found = told.before.before.before in
     let input = found.before.element.ensures in
-    let exists = found.inverse-with.ensures.0 ∙ ap (λ (l : List ℕ). decide (invertible? l)) input in
-    let value = found.inverse-with.ensures.1 ∙ ap inverseOf input in
+    let exists = found.inverse-with.ensures.0 ∙ ap (λ (l : List ℕ). decide (is_invertible l)) input in
+    let value = found.inverse-with.ensures.1 ∙ ap inverse_of input in
     ap₂ ◌&&◌
-    (ap₂ eqb told.before.number.ensures (told.inverse-number.ensures ∙ ap inverseNumber exists))
-    (c.same-elements.ensures ∙ ap₂ same? value c.before.element2.ensures)
+    (ap₂ eqb told.before.number.ensures (told.inverse-number.ensures ∙ ap inverse_number exists))
+    (c.same-elements.ensures ∙ ap₂ is_same value c.before.element2.ensures)
 
 pub inverse-agrees-spec : {M : Type 1} → statement M
 inverse-agrees-spec =

@@ -42,7 +42,7 @@ returns c = rw c.before.before.enum_told.given.1 c.has-sizes.ensures
 returns-2 : tie.Need-returns-2
 returns-2 c =
     let sized = c.before.before in
-    rw sized.before.before.enum-told2.given.1 (c.has-sizes2.ensures ∙ rw (sized.inverse-size.ensures, sized.before.number.ensures))
+    rw sized.before.before.enum-told2.given.1 (c.has-sizes2.ensures ∙ rw (sized.inverse_size_lem.ensures, sized.before.number.ensures))
 
 returns-3 : tie.Need-returns-3
 returns-3 c = rw c.before.before.enum-told3.given.1 c.has-sizes3.ensures

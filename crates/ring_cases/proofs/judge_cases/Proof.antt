@@ -4,15 +4,15 @@ use native.Mathlib.Omega.{arith}
 use lib.ListN.{length}
 use Rattle.vectors.specs.declared.Report.TheVariants.{Counts}
 use Rattle.vectors.specs.Answers.{counted, report}
-use Rattle.vectors.proofs.Counts.{Counted, counted_none, counted-more, counted-all}
+use Rattle.vectors.proofs.Counts.{Counted, counted_none, counted_more, counted_all}
 use Rattle.ring_cases.specs.declared.Kind.{Kind}
 use Rattle.ring_cases.specs.declared.Kind.TheVariants.{Products, Inverses, Remainders}
-use Rattle.ring_cases.specs.Cases.{fieldCount, verdict}
+use Rattle.ring_cases.specs.Cases.{field_count, verdict}
 use borrow.Author.Rules.{rules}
 use Rattle.ring_cases.proofs.judge_cases.Statement.{statement}
 use Rattle.ring_cases.proofs.judge_cases.Tie as tie
 
-some : (kind : Kind) → 0 < fieldCount kind
+some : (kind : Kind) → 0 < field_count kind
 some Products = omega arith
 some Inverses = omega arith
 some Remainders = omega arith
@@ -54,13 +54,13 @@ loop-again : tie.Need-loop-preserved invariant-loop decreases-loop
 loop-again c =
     let judged = c.before.before in
     let turn = judged.before.before in
-    counted-more turn.before.loop.invariant turn.loop-test.true judged.judge.ensures c.before.counted.ensures c.after-case.ensures
+    counted_more turn.before.loop.invariant turn.loop-test.true judged.judge.ensures c.before.counted.ensures c.after-case.ensures
 
 returns : tie.Need-returns invariant-loop decreases-loop
 returns c =
     let fields = c.before.before in
     let args = fields.before.before.before.before.args in
-    counted-all c.before.loop.invariant c.loop-test.false ∙ ap (λ (k : ℕ). report (verdict args.kind) k args.text.now) fields.field-count.ensures
+    counted_all c.before.loop.invariant c.loop-test.false ∙ ap (λ (k : ℕ). report (verdict args.kind) k args.text.now) fields.field-count.ensures
 
 pub judge-cases-spec : {M : Type 1} → statement M
 judge-cases-spec =

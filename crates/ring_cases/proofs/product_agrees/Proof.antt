@@ -3,7 +3,7 @@ use mathlib.Core.Bool.{◌&&◌}
 use Prim.Native.Nat.{ℕ}
 use lib.Dec.{eqb}
 use Rattle.ring.specs.Ring.{product}
-use Rattle.vectors.specs.Answers.{same?}
+use Rattle.vectors.specs.Answers.{is_same}
 use borrow.Author.Rules.{rules}
 use Rattle.ring_cases.proofs.product_agrees.Statement.{statement}
 use Rattle.ring_cases.proofs.product_agrees.Tie as tie
@@ -30,7 +30,7 @@ returns : tie.Need-returns
 returns c =
     let third = c.before.before.before in
     let found = c.before.before.product-with.ensures ∙ ap₂ product third.before.before.element.ensures third.before.element2.ensures in
-    ap₂ ◌&&◌ (ap (λ (k : ℕ). eqb k 0) c.before.number.ensures) (c.same-elements.ensures ∙ ap₂ same? found third.element3.ensures)
+    ap₂ ◌&&◌ (ap (λ (k : ℕ). eqb k 0) c.before.number.ensures) (c.same-elements.ensures ∙ ap₂ is_same found third.element3.ensures)
 
 pub product-agrees-spec : {M : Type 1} → statement M
 product-agrees-spec =

@@ -6,15 +6,15 @@ use borrow.Author.Tests.{not-true, not-false, eqb-true}
 use borrow.Author.Rules.{rules}
 use Rattle.lists.proofs.Both.{both}
 use Rattle.ring.specs.Ring.{product}
-use Rattle.encoding.specs.Words.{elementBytes}
-use Rattle.encoding.proofs.Words.{length-elementBytes}
+use Rattle.encoding.specs.Words.{element_bytes}
+use Rattle.encoding.proofs.Words.{length-element_bytes}
 use Rattle.encoding.proofs.Buffers.{put-exact}
-use Rattle.ring_product.specs.Product.{fit, productNumber, productOut}
+use Rattle.ring_product.specs.Product.{fit, product_number, product_out}
 use Rattle.ring_product.proofs.ring_product.Statement.{statement}
 use Rattle.ring_product.proofs.ring_product.Tie as tie
 
 returns : tie.Need-returns
-unfolding productNumber productOut
+unfolding product_number product_out
 returns c =
     let args = c.before.before.before.before.args in
     let misfit : fit args.a.now args.b.now args.out.now ≡ false = not-true _ c.if1.true in
@@ -36,7 +36,7 @@ same_length : tie.Need-same-length
 same_length c = search rules
 
 returns-2 : tie.Need-returns-2
-unfolding productNumber productOut
+unfolding product_number product_out
 returns-2 c =
     let written = c.before.before in
     let made = written.before.before in
@@ -46,7 +46,7 @@ returns-2 c =
     let room : length args.out.now ≡ 2048 = eqb-true _ _ (both (eqb (length args.a.now) 2048 && eqb (length args.b.now) 2048) _ fits).1 in
     let value = made.product.ensures ∙ ap₂ product made.before.before.decode-element.ensures made.before.decode-element2.ensures in (
       rw fits,
-      rw fits (written.encode-element.ensures ∙ put-exact _ _ (length-elementBytes _ ∙ sym room) ∙ ap elementBytes value),
+      rw fits (written.encode-element.ensures ∙ put-exact _ _ (length-element_bytes _ ∙ sym room) ∙ ap element_bytes value),
     )
 
 pub ring-product-spec : {M : Type 1} → statement M

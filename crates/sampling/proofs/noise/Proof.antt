@@ -6,16 +6,16 @@ use lib.IntN.{ℤ, pos}
 use lib.ListN.{get_or}
 use mir.Syntax.{w8, w16}
 use Rattle.lists.specs.Table.{table}
-use Rattle.lists.proofs.Tables.{getD-table}
-use Rattle.sampling.specs.Noise.{fourBits}
+use Rattle.lists.proofs.Tables.{get_or-table}
+use Rattle.sampling.specs.Noise.{four_bits}
 use Rattle.ring.proofs.SignedValues.{widened-fits, widened}
 use borrow.Author.Rules.{rules}
 use Rattle.sampling.proofs.noise.Statement.{statement}
 use Rattle.sampling.proofs.noise.Tie as tie
 
 -- the entry at t, wherever it is read from
-value-at : (values : List ℤ) (i t : ℕ) → values ≡ table 16 fourBits → i ≡ t → t < 16 → get_or values i (pos 0) ≡ fourBits t
-value-at values i t e same h = rw (e, same) (getD-table 16 fourBits t (pos 0) h)
+value-at : (values : List ℤ) (i t : ℕ) → values ≡ table 16 four_bits → i ≡ t → t < 16 → get_or values i (pos 0) ≡ four_bits t
+value-at values i t e same h = rw (e, same) (get_or-table 16 four_bits t (pos 0) h)
 
 cast-value : tie.Need-overflow-cast-value
 cast-value c = search rules

@@ -5,9 +5,9 @@ use lib.IntN.{ℤ, pos}
 use lib.ListN.{get_or}
 use mir.Syntax.{w16}
 use Rattle.ring.specs.Ring.{n}
-use Rattle.encoding.proofs.Digits.{digit-first, digit-in, digit-missing}
-use Rattle.sampling.specs.Noise.{fourBits, nibbleAt}
-use Rattle.sampling.proofs.NoiseLaws.{fourBits-none}
+use Rattle.encoding.proofs.Digits.{digit-first, digit-in, digit_missing}
+use Rattle.sampling.specs.Noise.{four_bits, nibble_at}
+use Rattle.sampling.proofs.NoiseLaws.{four_bits_none}
 use Rattle.sampling.proofs.FrontFill.{FrontFilled, front-filled-start, front-filled-next, front-filled-all}
 use Rattle.ring.proofs.SignedValues.{read_back}
 use borrow.Author.Rules.{rules}
@@ -15,7 +15,7 @@ use Rattle.sampling.proofs.signed_noise.Statement.{statement}
 use Rattle.sampling.proofs.signed_noise.Tie as tie
 
 abbrev invariant-loop : tie.invariant-loop
-invariant-loop bytes values t₀ count i₀ t i = FrontFilled n (2 * count) (λ k. fourBits (nibbleAt bytes k)) t (2 * i)
+invariant-loop bytes values t₀ count i₀ t i = FrontFilled n (2 * count) (λ k. four_bits (nibble_at bytes k)) t (2 * i)
 
 abbrev decreases-loop : tie.decreases-loop
 decreases-loop bytes values t₀ count i₀ t i = count - i
@@ -29,8 +29,8 @@ lesser-requires c κs = search rules
 loop-holds : tie.Need-loop-init invariant-loop decreases-loop
 loop-holds c =
     let bytes = c.before.before.before.args.bytes.now in
-    front-filled-start (λ k. fourBits (nibbleAt bytes k)) (omega (arith, c.lesser.ensures)) (pos 0) refl
-    (λ k l h. ap fourBits (digit-missing 16 2 bytes k (omega (arith, c.lesser.ensures))) ∙ fourBits-none)
+    front-filled-start (λ k. four_bits (nibble_at bytes k)) (omega (arith, c.lesser.ensures)) (pos 0) refl
+    (λ k l h. ap four_bits (digit_missing 16 2 bytes k (omega (arith, c.lesser.ensures))) ∙ four_bits_none)
 
 shared-slice-read-b : tie.Need-shared-slice-read-b invariant-loop decreases-loop
 shared-slice-read-b c = search rules
@@ -76,16 +76,16 @@ loop-again c =
     let b : get_or bytes i 0 < 256 = omega (arith, c.before.before.before.before.shared-slice-known2.given i) in
     let low = digit-first 16 2 bytes i (omega arith) in
     let high = digit-in 16 2 bytes i 1 (omega arith) in
-    let rule : ℕ → ℤ = λ k. fourBits (nibbleAt bytes k) in
+    let rule : ℕ → ℤ = λ k. four_bits (nibble_at bytes k) in
     let first = c.before.before.noise in
     front-filled-next rule
-    (front-filled-next rule at.loop.invariant (omega arith) (read_back w16 _ first.type-inv ∙ first.ensures ∙ ap fourBits (omega (arith, low))) refl)
-    (omega arith) (read_back w16 _ c.noise2.type-inv ∙ c.noise2.ensures ∙ ap fourBits (omega (arith, high))) (omega arith)
+    (front-filled-next rule at.loop.invariant (omega arith) (read_back w16 _ first.type-inv ∙ first.ensures ∙ ap four_bits (omega (arith, low))) refl)
+    (omega arith) (read_back w16 _ c.noise2.type-inv ∙ c.noise2.ensures ∙ ap four_bits (omega (arith, high))) (omega arith)
 
 returns : tie.Need-returns invariant-loop decreases-loop
 returns c =
     let bytes = c.before.before.before.before.before.args.bytes.now in
-    front-filled-all (λ k. fourBits (nibbleAt bytes k)) (omega (arith, c.before.before.lesser.ensures)) c.before.loop.invariant (omega arith)
+    front-filled-all (λ k. four_bits (nibble_at bytes k)) (omega (arith, c.before.before.lesser.ensures)) c.before.loop.invariant (omega arith)
 
 pub signed-noise-spec : {M : Type 1} → statement M
 signed-noise-spec =

@@ -4,7 +4,7 @@ use Prim.Native.Nat.{◌+◌, ◌-◌, ◌*◌, ◌<◌, ◌≤◌}
 use native.Mathlib.Omega.{arith}
 use Rattle.ring.specs.Ring.{q, n}
 use Rattle.sampling.proofs.Streams.{stream-words}
-use Rattle.sampling.proofs.Reading.{Read, read_none, read-pass, read_take, read-full, read_all}
+use Rattle.sampling.proofs.Reading.{Read, read_none, read_pass, read_take, read-full, read_all}
 use borrow.Author.Rules.{rules}
 use Rattle.sampling.proofs.uniform.Statement.{statement}
 use Rattle.sampling.proofs.uniform.Tie as tie
@@ -78,7 +78,7 @@ loop-again c =
     let word = c.before.word.ensures in
     ⊎_elim
     (λ w. (omega arith, block, omega (arith, w.1.left, w.3), rw (next, w.2, w.3) (read_take _ inv (omega arith) (omega arith) word w.0.taken room)))
-    (λ w. (omega arith, block, omega (arith, w.2), rw (next, w.1, w.2) (read-pass _ inv (omega arith) (omega arith) word w.0.left)))
+    (λ w. (omega arith, block, omega (arith, w.2), rw (next, w.1, w.2) (read_pass _ inv (omega arith) (omega arith) word w.0.left)))
     c.if2.branch
 
 add-k : tie.Need-overflow-add-k invariant-loop decreases-loop invariant-blocks2 decreases-blocks2

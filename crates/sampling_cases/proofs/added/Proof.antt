@@ -21,7 +21,7 @@ one-more-requires-3 : tie.Need-one-more-requires-3
 one-more-requires-3 c κs = search rules
 
 returns : tie.Need-returns
-returns c = rw (c.before.enum_told.given.1, c.one_more.ensures)
+returns c = rw (c.before.enum_told.given.1, c.one_more_lem.ensures)
 
 returns-2 : tie.Need-returns-2
 returns-2 c = rw (c.before.enum-told2.given.1, c.one-more2.ensures)

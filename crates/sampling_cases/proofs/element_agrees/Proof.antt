@@ -1,9 +1,9 @@
 use mathlib.Core.Path.{refl, ap, ap₂, ◌∙◌}
 use Rattle.lists.proofs.Zeros.{size-zeros}
-use Rattle.encoding.specs.Words.{elementBytes}
-use Rattle.encoding.proofs.Words.{length-elementBytes}
+use Rattle.encoding.specs.Words.{element_bytes}
+use Rattle.encoding.proofs.Words.{length-element_bytes}
 use Rattle.encoding.proofs.Buffers.{put-exact}
-use Rattle.vectors.specs.Answers.{same?}
+use Rattle.vectors.specs.Answers.{is_same}
 use borrow.Author.Rules.{rules}
 use Rattle.sampling_cases.proofs.element_agrees.Statement.{statement}
 use Rattle.sampling_cases.proofs.element_agrees.Tie as tie
@@ -36,8 +36,8 @@ returns : tie.Need-returns
 returns c =
     let written = c.before.before.before.before in
     let drawn = written.before.before.before.uniform.ensures.1 in
-    let bytes = written.encode-element.ensures ∙ put-exact _ _ (length-elementBytes _ ∙ size-zeros 2048) ∙ ap elementBytes drawn in
-    c.same.ensures ∙ ap₂ same? bytes refl
+    let bytes = written.encode-element.ensures ∙ put-exact _ _ (length-element_bytes _ ∙ size-zeros 2048) ∙ ap element_bytes drawn in
+    c.same.ensures ∙ ap₂ is_same bytes refl
 
 pub element-agrees-spec : {M : Type 1} → statement M
 element-agrees-spec =

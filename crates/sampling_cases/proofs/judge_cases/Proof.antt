@@ -1,15 +1,15 @@
 use Prim.Native.Nat.{ℕ, ◌-◌}
 use lib.ListN.{length}
 use Rattle.vectors.specs.declared.Verdict.{Verdict}
-use Rattle.vectors.proofs.Counts.{Counted, counted_none, counted-more, counted-all}
+use Rattle.vectors.proofs.Counts.{Counted, counted_none, counted_more, counted_all}
 use Rattle.sampling_cases.specs.declared.Counts.{Counts}
-use Rattle.sampling_cases.specs.Cases.{verdict, added, noCounts}
+use Rattle.sampling_cases.specs.Cases.{verdict, added, no_counts}
 use borrow.Author.Rules.{rules}
 use Rattle.sampling_cases.proofs.judge_cases.Statement.{statement}
 use Rattle.sampling_cases.proofs.judge_cases.Tie as tie
 
 abbrev invariant-loop : tie.invariant-loop
-invariant-loop text counts₀ at₀ counts at = Counted (λ (c : Counts) (v : Verdict) (k : ℕ). added c v) verdict 9 text noCounts counts at
+invariant-loop text counts₀ at₀ counts at = Counted (λ (c : Counts) (v : Verdict) (k : ℕ). added c v) verdict 9 text no_counts counts at
 
 abbrev decreases-loop : tie.decreases-loop
 decreases-loop text counts₀ at₀ counts at = length text - at
@@ -42,10 +42,10 @@ loop-again : tie.Need-loop-preserved invariant-loop decreases-loop
 loop-again c =
     let judged = c.before.before in
     let turn = judged.before.before in
-    counted-more turn.before.loop.invariant turn.loop-test.true judged.judge.ensures c.before.added.ensures c.after-case.ensures
+    counted_more turn.before.loop.invariant turn.loop-test.true judged.judge.ensures c.before.added.ensures c.after-case.ensures
 
 returns : tie.Need-returns invariant-loop decreases-loop
-returns c = counted-all c.before.loop.invariant c.loop-test.false
+returns c = counted_all c.before.loop.invariant c.loop-test.false
 
 pub judge-cases-spec : {M : Type 1} → statement M
 judge-cases-spec =

@@ -1,9 +1,9 @@
 use mathlib.Core.Path.{refl, ap, ap₂, ◌∙◌}
 use Rattle.lists.proofs.Zeros.{size-zeros}
-use Rattle.encoding.specs.Codes.{ternaryBytes}
-use Rattle.encoding.proofs.Codes.{length-ternaryBytes}
+use Rattle.encoding.specs.Codes.{ternary_bytes}
+use Rattle.encoding.proofs.Codes.{length-ternary_bytes}
 use Rattle.encoding.proofs.Buffers.{put-exact}
-use Rattle.vectors.specs.Answers.{same?}
+use Rattle.vectors.specs.Answers.{is_same}
 use borrow.Author.Rules.{rules}
 use Rattle.sampling_cases.proofs.noise_agrees.Statement.{statement}
 use Rattle.sampling_cases.proofs.noise_agrees.Tie as tie
@@ -36,8 +36,8 @@ returns : tie.Need-returns
 returns c =
     let written = c.before.before.before.before in
     let drawn = written.before.before.ternary.ensures in
-    let bytes = written.encode-ternary.ensures ∙ put-exact _ _ (length-ternaryBytes _ ∙ size-zeros 256) ∙ ap ternaryBytes drawn in
-    c.same.ensures ∙ ap₂ same? bytes refl
+    let bytes = written.encode-ternary.ensures ∙ put-exact _ _ (length-ternary_bytes _ ∙ size-zeros 256) ∙ ap ternary_bytes drawn in
+    c.same.ensures ∙ ap₂ is_same bytes refl
 
 pub noise-agrees-spec : {M : Type 1} → statement M
 noise-agrees-spec =

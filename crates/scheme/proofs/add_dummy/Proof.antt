@@ -1,7 +1,7 @@
 use mathlib.Core.Path.{◌≡◌, ap, ◌∙◌}
 use lib.ListN.{length}
-use Rattle.ntt.specs.Spectrum.{spectrumOf}
-use Rattle.scheme.proofs.Steps.{summed-by-spectra}
+use Rattle.ntt.specs.Spectrum.{spectrum_of}
+use Rattle.scheme.proofs.Steps.{summed_by-spectra}
 use borrow.Author.Rules.{rules}
 use Rattle.scheme.proofs.add_dummy.Statement.{statement}
 use Rattle.scheme.proofs.add_dummy.Tie as tie
@@ -45,10 +45,10 @@ returns c =
     let hb : length args.b ≡ 1024 = search (rules, start.well-formed.1.0) in
     let hr : length dummy.r ≡ 1024 = search (rules, start.well-formed.1.1.0.1) in
     let r = transformed.forward.ensures in (
-      summed-by-spectra args.a dummy.r dummy.e1 args.c.c1 _ _ _ _ ha hr r
-          (first.forward2.ensures ∙ ap spectrumOf first.before.sum.ensures) c.before.before.before.pointwise.ensures c.before.before.sum3.ensures,
-      summed-by-spectra args.b dummy.r dummy.e2 args.c.c2 _ _ _ _ hb hr r
-          (second.forward3.ensures ∙ ap spectrumOf second.before.sum2.ensures) c.before.pointwise2.ensures c.sum4.ensures,
+      summed_by-spectra args.a dummy.r dummy.e1 args.c.c1 _ _ _ _ ha hr r
+          (first.forward2.ensures ∙ ap spectrum_of first.before.sum.ensures) c.before.before.before.pointwise.ensures c.before.before.sum3.ensures,
+      summed_by-spectra args.b dummy.r dummy.e2 args.c.c2 _ _ _ _ hb hr r
+          (second.forward3.ensures ∙ ap spectrum_of second.before.sum2.ensures) c.before.pointwise2.ensures c.sum4.ensures,
     )
 
 pub add-dummy-spec : {M : Type 1} → statement M

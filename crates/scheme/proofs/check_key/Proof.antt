@@ -2,10 +2,10 @@ use mathlib.Core.Path.{◌≡◌, ap, ap₂, ◌∙◌}
 use mathlib.Core.List.{List}
 use Prim.Native.Nat.{ℕ}
 use lib.ListN.{length}
-use Rattle.ntt.specs.Spectrum.{coefficientsOf}
-use Rattle.ring.specs.Centred.{within?}
-use Rattle.scheme.specs.Scheme.{keyError}
-use Rattle.scheme.proofs.Steps.{error-through}
+use Rattle.ntt.specs.Spectrum.{coefficients_of}
+use Rattle.ring.specs.Centred.{is_within}
+use Rattle.scheme.specs.Scheme.{key_error}
+use Rattle.scheme.proofs.Steps.{error_through}
 use borrow.Author.Rules.{rules}
 use Rattle.scheme.proofs.check_key.Statement.{statement}
 use Rattle.scheme.proofs.check_key.Tie as tie
@@ -35,9 +35,9 @@ returns c =
     let a = spectra.before.before.forward.ensures in
     let b = spectra.before.forward2.ensures in
     let s = spectra.forward3.ensures in
-    let error = c.before.key-error.ensures
-    ∙ ap₂ (λ (x y : List ℕ). keyError (coefficientsOf x) args.b (coefficientsOf y)) a s ∙ error-through args.a args.b args.s ha hs in
-    (c.is_Within.ensures ∙ ap (within? 1) error, (a, b, s))
+    let error = c.before.key_error_is.ensures
+    ∙ ap₂ (λ (x y : List ℕ). key_error (coefficients_of x) args.b (coefficients_of y)) a s ∙ error_through args.a args.b args.s ha hs in
+    (c.is_Within.ensures ∙ ap (is_within 1) error, (a, b, s))
 
 pub check-key-spec : {M : Type 1} → statement M
 check-key-spec =

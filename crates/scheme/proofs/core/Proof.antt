@@ -2,7 +2,7 @@ use mathlib.Core.Path.{ap, ap₂, ◌∙◌}
 use mathlib.Core.List.{List}
 use lib.IntN.{ℤ}
 use Rattle.exactness.specs.Scheme as Any
-use Rattle.ntt.specs.Spectrum.{coefficientsOf}
+use Rattle.ntt.specs.Spectrum.{coefficients_of}
 use Rattle.ring.specs.Centred.{remainders, quotients}
 use Rattle.scheme.specs.Scheme.{Triple, recovered, judged}
 use Rattle.scheme.specs.Answers.{triple_of, answer}
@@ -40,7 +40,7 @@ returns c =
     c.judge.ensures
     ∙ ap₂ (λ (t : Triple) (w : List ℤ). answer (judged (triple_of args.dummy) t) w)
     (c.before.recover.ensures
-    ∙ ap (recovered (coefficientsOf args.a) (coefficientsOf args.inverse) (coefficientsOf args.sums.first) (coefficientsOf args.sums.second)) e2)
+    ∙ ap (recovered (coefficients_of args.a) (coefficients_of args.inverse) (coefficients_of args.sums.first) (coefficients_of args.sums.second)) e2)
     w
 
 pub core_spec : {M : Type 1} → statement M

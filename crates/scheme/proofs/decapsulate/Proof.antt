@@ -3,14 +3,14 @@ use mathlib.Core.List.{List}
 use Prim.Native.Nat.{ℕ}
 use lib.ListN.{length}
 use Rattle.exactness.specs.Scheme as Any
-use Rattle.ntt.specs.Spectrum.{coefficientsOf}
+use Rattle.ntt.specs.Spectrum.{coefficients_of}
 use Rattle.ring.specs.Ring.{product}
 use Rattle.ring.specs.Centred.{quotients}
-use Rattle.ring.proofs.Transforms.{product-by-spectra}
+use Rattle.ring.proofs.Transforms.{product_by-spectra}
 use Rattle.scheme.specs.Scheme.{core, phase}
 use Rattle.scheme.specs.declared.Decapsulation.{Decapsulation}
 use Rattle.scheme.specs.Answers.{triple_of, answer}
-use Rattle.scheme.proofs.Steps.{summed-through, summed-size}
+use Rattle.scheme.proofs.Steps.{summed_through, summed-size}
 use borrow.Author.Rules.{rules}
 use Rattle.scheme.proofs.decapsulate.Statement.{statement}
 use Rattle.scheme.proofs.decapsulate.Tie as tie
@@ -36,15 +36,15 @@ returns c =
     let start = sums.before.before.before in
     let args = start.args in
     let first = sums.add-dummy.result.first in
-    let size : length first ≡ 1024 = summed-size (coefficientsOf args.a) args.dummy.r args.dummy.e1 args.c.c1 first sums.add-dummy.ensures.0 in
+    let size : length first ≡ 1024 = summed-size (coefficients_of args.a) args.dummy.r args.dummy.e1 args.c.c1 first sums.add-dummy.ensures.0 in
     let hs : length args.s ≡ 1024 = search (rules, start.well-formed.1.1.0) in
-    let s1 = ap coefficientsOf sums.add-dummy.ensures.0 ∙ summed-through (coefficientsOf args.a) args.dummy.r args.dummy.e1 args.c.c1 in
-    let s2 = ap coefficientsOf sums.add-dummy.ensures.1 ∙ summed-through (coefficientsOf args.b) args.dummy.r args.dummy.e2 args.c.c2 in
+    let s1 = ap coefficients_of sums.add-dummy.ensures.0 ∙ summed_through (coefficients_of args.a) args.dummy.r args.dummy.e1 args.c.c1 in
+    let s2 = ap coefficients_of sums.add-dummy.ensures.1 ∙ summed_through (coefficients_of args.b) args.dummy.r args.dummy.e2 args.c.c2 in
     let outcome : List ℕ → List ℕ → List ℕ → Decapsulation = λ s1 s2 s1s.
-    answer (core (coefficientsOf args.a) (coefficientsOf args.inverse) (triple_of args.dummy) s1 s2 s1s) (quotients (phase s2 s1s)) in
+    answer (core (coefficients_of args.a) (coefficients_of args.inverse) (triple_of args.dummy) s1 s2 s1s) (quotients (phase s2 s1s)) in
     c.core.ensures
-    ∙ ap (outcome _ _) (ap coefficientsOf c.before.pointwise.ensures ∙ product-by-spectra first args.s size hs)
-    ∙ ap₂ (λ (s1 s2 : List ℕ). outcome s1 s2 (product s1 (coefficientsOf args.s))) s1 s2
+    ∙ ap (outcome _ _) (ap coefficients_of c.before.pointwise.ensures ∙ product_by-spectra first args.s size hs)
+    ∙ ap₂ (λ (s1 s2 : List ℕ). outcome s1 s2 (product s1 (coefficients_of args.s))) s1 s2
 
 pub decapsulate-spec : {M : Type 1} → statement M
 decapsulate-spec = tie.close (tie.spec add-dummy-requires pointwise-requires core-requires returns)

@@ -1,6 +1,6 @@
 use mathlib.Core.Path.{◌≡◌}
 use lib.ListN.{length}
-use Rattle.scheme.proofs.Steps.{masked-by-spectra}
+use Rattle.scheme.proofs.Steps.{masked_by-spectra}
 use borrow.Author.Rules.{rules}
 use Rattle.scheme.proofs.encapsulate.Statement.{statement}
 use Rattle.scheme.proofs.encapsulate.Tie as tie
@@ -27,8 +27,8 @@ returns c =
     let args = start.args in
     let t = args.t in
     let size : length t.r ≡ 1024 = search (rules, start.well-formed.1.1.0) in (
-      masked-by-spectra args.a t.r t.e1 _ _ _ size transformed.forward.ensures c.before.before.before.product-of-spectra.ensures c.before.before.sum.ensures,
-      masked-by-spectra args.b t.r t.e2 _ _ _ size transformed.forward.ensures c.before.product-of-spectra2.ensures c.sum2.ensures,
+      masked_by-spectra args.a t.r t.e1 _ _ _ size transformed.forward.ensures c.before.before.before.product-of-spectra.ensures c.before.before.sum.ensures,
+      masked_by-spectra args.b t.r t.e2 _ _ _ size transformed.forward.ensures c.before.product-of-spectra2.ensures c.sum2.ensures,
     )
 
 pub encapsulate-spec : {M : Type 1} → statement M

@@ -15,7 +15,7 @@ is-within-requires-3 : tie.Need-is-within-requires-3
 is-within-requires-3 c κs = search rules
 
 returns : tie.Need-returns
-unfolding Any.ternary?
+unfolding Any.is_ternary
 returns c =
     ap₂ ◌&&◌ (ap₂ ◌&&◌ c.before.before.is_Within.ensures c.before.is-within2.ensures) c.is-within3.ensures
 

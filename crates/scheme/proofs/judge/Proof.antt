@@ -1,6 +1,6 @@
 use mathlib.Core.Path.{◌≡◌, sym, ap, ap₂, ◌∙◌}
 use mathlib.Core.Bool.{true, false, ◌&&◌}
-use Rattle.scheme.specs.Scheme.{Triple, Outcome, found, withoutDummy, recovers?, ternary?}
+use Rattle.scheme.specs.Scheme.{Triple, Outcome, found, without_dummy, recovers, is_ternary}
 use Rattle.scheme.specs.Answers.{triple_of, answer}
 use Rattle.scheme.proofs.Steps.{judged-found, judged-failed}
 use borrow.Author.Rules.{rules}
@@ -21,7 +21,7 @@ returns c =
     let at = c.before in
     let args = at.before.before.before.args in
     let u = at.before.subtract-dummy.ensures in
-    let tests = ap₂ ◌&&◌ at.before.before.recovers.ensures (at.is-ternary.ensures ∙ ap ternary? u) in
+    let tests = ap₂ ◌&&◌ at.before.before.recovers.ensures (at.is-ternary.ensures ∙ ap is_ternary u) in
     ap (λ (x : Triple). answer (found x) args.w) u
     ∙ sym (ap (λ (o : Outcome). answer o args.w) (judged-found (triple_of args.dummy) (triple_of args.t) (sym tests ∙ c.if1.true)))
 
@@ -30,7 +30,7 @@ returns-2 c =
     let at = c.before in
     let args = at.before.before.before.args in
     let u = at.before.subtract-dummy.ensures in
-    let tests = ap₂ ◌&&◌ at.before.before.recovers.ensures (at.is-ternary.ensures ∙ ap ternary? u) in
+    let tests = ap₂ ◌&&◌ at.before.before.recovers.ensures (at.is-ternary.ensures ∙ ap is_ternary u) in
     sym (ap (λ (o : Outcome). answer o args.w) (judged-failed (triple_of args.dummy) (triple_of args.t) (sym tests ∙ c.if1.false)))
 
 pub judge-spec : {M : Type 1} → statement M

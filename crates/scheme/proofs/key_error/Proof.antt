@@ -15,7 +15,7 @@ difference-requires : tie.Need-difference-requires
 difference-requires c κs = search rules
 
 returns : tie.Need-returns
-unfolding Any.keyError
+unfolding Any.key_error
 returns c =
     c.difference.ensures ∙ ap₂ difference c.before.multiple.ensures c.before.before.product-of-spectra.ensures
 

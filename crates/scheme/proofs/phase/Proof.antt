@@ -1,8 +1,8 @@
 use mathlib.Core.Path.{◌≡◌, ap, ◌∙◌}
 use lib.ListN.{length}
-use Rattle.ntt.specs.Spectrum.{coefficientsOf}
+use Rattle.ntt.specs.Spectrum.{coefficients_of}
 use Rattle.ring.specs.Ring.{difference}
-use Rattle.scheme.proofs.Steps.{phase-by-spectra}
+use Rattle.scheme.proofs.Steps.{phase_by-spectra}
 use borrow.Author.Rules.{rules}
 use Rattle.scheme.proofs.phase.Statement.{statement}
 use Rattle.scheme.proofs.phase.Tie as tie
@@ -28,8 +28,8 @@ returns c =
     let hv : length args.second ≡ 1024 = search (rules, start.well-formed.0) in
     let hp : length args.product ≡ 1024 = search (rules, start.well-formed.1.0) in
     c.backward.ensures
-    ∙ ap coefficientsOf (c.before.difference.ensures ∙ ap (difference args.second) c.before.before.multiple.ensures)
-    ∙ phase-by-spectra args.second args.product hv hp
+    ∙ ap coefficients_of (c.before.difference.ensures ∙ ap (difference args.second) c.before.before.multiple.ensures)
+    ∙ phase_by-spectra args.second args.product hv hp
 
 pub phase-spec : {M : Type 1} → statement M
 phase-spec = tie.close (tie.spec multiple-requires difference-requires backward-requires returns)

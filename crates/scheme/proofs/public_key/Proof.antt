@@ -1,8 +1,8 @@
 use mathlib.Core.Path.{◌≡◌, ap, ◌∙◌}
 use mathlib.Core.Bool.{not}
 use lib.ListN.{length}
-use Rattle.ring.specs.Reciprocals.{hasZero}
-use Rattle.ring.proofs.Transforms.{zero-decides}
+use Rattle.ring.specs.Reciprocals.{has_zero}
+use Rattle.ring.proofs.Transforms.{zero_decides}
 use borrow.Author.Rules.{rules}
 use Rattle.scheme.proofs.public_key.Statement.{statement}
 use Rattle.scheme.proofs.public_key.Tie as tie
@@ -22,7 +22,7 @@ returns c =
     let size : length args.b ≡ 1024 = search rules in (
       c.before.before.forward.ensures,
       c.before.forward2.ensures,
-      ap not (c.has-zero.ensures ∙ ap hasZero c.before.forward2.ensures) ∙ zero-decides args.b size,
+      ap not (c.has-zero.ensures ∙ ap has_zero c.before.forward2.ensures) ∙ zero_decides args.b size,
     )
 
 pub public-key-spec : {M : Type 1} → statement M

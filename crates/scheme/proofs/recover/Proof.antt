@@ -3,9 +3,9 @@ use mathlib.Core.List.{List}
 use Prim.Native.Nat.{ℕ}
 use lib.ListN.{length}
 use Rattle.exactness.specs.Scheme as Any
-use Rattle.ntt.specs.Spectrum.{coefficientsOf, pointwise}
+use Rattle.ntt.specs.Spectrum.{coefficients_of, pointwise}
 use Rattle.ring.specs.Ring.{difference, product}
-use Rattle.scheme.proofs.Steps.{triple-same, r-by-spectra, e1-by-spectra}
+use Rattle.scheme.proofs.Steps.{triple-same, r_by-spectra, e1_by-spectra}
 use borrow.Author.Rules.{rules}
 use Rattle.scheme.proofs.recover.Statement.{statement}
 use Rattle.scheme.proofs.recover.Tie as tie
@@ -38,7 +38,7 @@ backward-requires-2 : tie.Need-backward-requires-2
 backward-requires-2 c κs = search rules
 
 returns : tie.Need-returns
-unfolding Any.recovered Any.recoveredR Any.recoveredE1
+unfolding Any.recovered Any.recovered_r Any.recovered_e1
 returns c =
     let made = c.before.before.before.before in
     let start = made.before.before.before.before.before.before.before in
@@ -50,15 +50,15 @@ returns c =
     let he : length args.e2 ≡ 1024 = search (rules, start.well-formed.1.1.1.0) in
     let spectrum = made.pointwise.result in
     let size : length spectrum ≡ 1024 = search rules in
-    let r : coefficientsOf spectrum ≡ product (difference (coefficientsOf args.sums.second) args.e2) (coefficientsOf args.inverse) =
-    ap coefficientsOf (made.pointwise.ensures ∙ ap (λ (x : List ℕ). pointwise x args.inverse) made.before.difference.ensures)
-    ∙ r-by-spectra args.inverse args.sums.second args.e2 _ hi second he made.before.before.forward.ensures in
+    let r : coefficients_of spectrum ≡ product (difference (coefficients_of args.sums.second) args.e2) (coefficients_of args.inverse) =
+    ap coefficients_of (made.pointwise.ensures ∙ ap (λ (x : List ℕ). pointwise x args.inverse) made.before.difference.ensures)
+    ∙ r_by-spectra args.inverse args.sums.second args.e2 _ hi second he made.before.before.forward.ensures in
     triple-same
     (c.before.backward.ensures ∙ r)
     (c.backward2.ensures
-    ∙ ap coefficientsOf (c.before.before.difference2.ensures ∙ ap (difference args.sums.first) c.before.before.before.pointwise2.ensures)
-    ∙ e1-by-spectra args.a args.sums.first spectrum ha first size
-    ∙ ap (λ (x : List ℕ). difference (coefficientsOf args.sums.first) (product (coefficientsOf args.a) x)) r)
+    ∙ ap coefficients_of (c.before.before.difference2.ensures ∙ ap (difference args.sums.first) c.before.before.before.pointwise2.ensures)
+    ∙ e1_by-spectra args.a args.sums.first spectrum ha first size
+    ∙ ap (λ (x : List ℕ). difference (coefficients_of args.sums.first) (product (coefficients_of args.a) x)) r)
     refl
 
 pub recover-spec : {M : Type 1} → statement M

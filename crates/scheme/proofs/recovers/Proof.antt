@@ -12,7 +12,7 @@ is-within-requires-2 : tie.Need-is-within-requires-2
 is-within-requires-2 c κs = search rules
 
 returns : tie.Need-returns
-unfolding Any.recovers?
+unfolding Any.recovers
 returns c =
     ap₂ ◌&&◌ c.before.is_Within.ensures c.is-within2.ensures
 

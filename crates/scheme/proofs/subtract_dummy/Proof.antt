@@ -14,7 +14,7 @@ difference-requires-3 : tie.Need-difference-requires-3
 difference-requires-3 c κs = search rules
 
 returns : tie.Need-returns
-unfolding Any.withoutDummy
+unfolding Any.without_dummy
 returns c =
     triple-same c.before.before.difference.ensures c.before.difference2.ensures c.difference3.ensures
 

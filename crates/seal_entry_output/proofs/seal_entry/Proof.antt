@@ -1,6 +1,6 @@
 use mathlib.Core.Path.{sym, ◌∙◌}
-use Rattle.seal_entry_output.specs.SealEntry.{standardError}
-use Rattle.seal_entry_output.proofs.Printing.{output-done, output-refused}
+use Rattle.seal_entry_output.specs.SealEntry.{standard_error}
+use Rattle.seal_entry_output.proofs.Printing.{output-done, output_refused}
 use borrow.Author.Rules.{rules}
 use Rattle.seal_entry_output.proofs.seal_entry.Statement.{statement}
 use Rattle.seal_entry_output.proofs.seal_entry.Tie as tie
@@ -18,7 +18,7 @@ same_length : tie.Need-same-length
 same_length c = search rules
 
 returns : tie.Need-returns
-unfolding standardError
+unfolding standard_error
 returns c =
     let made = c.before.before.before.before.before in
     let start = made.before.before.before.before in
@@ -35,13 +35,13 @@ same-length-2 : tie.Need-same-length-2
 same-length-2 c = search rules
 
 returns-2 : tie.Need-returns-2
-unfolding standardError
+unfolding standard_error
 returns-2 c =
     let made = c.before.before.before.before.before in
     let start = made.before.before.before.before in
     let input = start.args.input.now in
     let (answered, sealed) = made.sealed-of.ensures in
-    let output = output-refused input made.sealed-of.new.1.0 (sym answered ∙ c.enum-told2.given.1) in
+    let output = output_refused input made.sealed-of.new.1.0 (sym answered ∙ c.enum-told2.given.1) in
     (rw answered at sealed, (output.size, (output.bytes, rw answered at c.before.before.line.ensures)))
 
 pub seal-entry-spec : {M : Type 1} → statement M

@@ -2,7 +2,7 @@ use mathlib.Core.Path.{◌∙◌}
 use mathlib.Core.List.{List}
 use Prim.Native.Nat.{ℕ}
 use lib.ListN.{length}
-use Rattle.calls.specs.Calls.{sealAnswer, sealOut}
+use Rattle.calls.specs.Calls.{seal_answer, seal_out}
 use Rattle.seal_entry_output.proofs.Printing.{of_parts}
 use borrow.Author.Rules.{rules}
 use Rattle.seal_entry_output.proofs.seal_parts.Statement.{statement}
@@ -57,8 +57,8 @@ returns c =
     let input = args.input.now in
     let sealed = args.sealed.now in
     let (answered, written) = called.seal.ensures in (
-      answered ∙ of_parts (λ (key noise entry : List ℕ). sealAnswer key noise entry (length sealed)) input,
-      written ∙ of_parts (λ (key noise entry : List ℕ). sealOut key noise entry sealed) input,
+      answered ∙ of_parts (λ (key noise entry : List ℕ). seal_answer key noise entry (length sealed)) input,
+      written ∙ of_parts (λ (key noise entry : List ℕ). seal_out key noise entry sealed) input,
     )
 
 pub seal-parts-spec : {M : Type 1} → statement M

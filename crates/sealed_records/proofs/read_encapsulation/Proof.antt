@@ -1,8 +1,8 @@
 use mathlib.Core.Path.{ap, ◌∙◌}
-use Rattle.encoding.specs.Words.{firstUnreduced}
+use Rattle.encoding.specs.Words.{first_unreduced}
 use Rattle.answers.specs.declared.EncapsulationRecord.TheVariants.{Encapsulation}
-use Rattle.records.specs.Records.{c1Word, c2Word, c1Of, c2Of}
-use Rattle.records.proofs.Checks.{words-checked}
+use Rattle.records.specs.Records.{c1_word, c2_word, c1_of, c2_of}
+use Rattle.records.proofs.Checks.{words_checked}
 use borrow.Author.Rules.{rules}
 use Rattle.sealed_records.proofs.read_encapsulation.Statement.{statement}
 use Rattle.sealed_records.proofs.read_encapsulation.Tie as tie
@@ -46,9 +46,9 @@ returns c =
     let bytes = read.before.before.before.before.before.args.bytes.now in
     let first = read.before.before.decode-element.ensures in
     let second = read.decode-element2.ensures in
-    let i = c.before.before.first-unreduced.ensures ∙ ap firstUnreduced first in
-    let j = c.before.first-unreduced2.ensures ∙ ap firstUnreduced second in
-    (words-checked (c1Word Encapsulation) (c2Word Encapsulation) (c1Of bytes) (c2Of bytes) (i, j) c.words-answer.ensures, (first, second))
+    let i = c.before.before.first-unreduced.ensures ∙ ap first_unreduced first in
+    let j = c.before.first-unreduced2.ensures ∙ ap first_unreduced second in
+    (words_checked (c1_word Encapsulation) (c2_word Encapsulation) (c1_of bytes) (c2_of bytes) (i, j) c.words-answer.ensures, (first, second))
 
 pub read-encapsulation-spec : {M : Type 1} → statement M
 read-encapsulation-spec =

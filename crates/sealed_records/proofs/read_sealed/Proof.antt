@@ -1,9 +1,9 @@
 use mathlib.Core.Path.{ap, ap₂, ◌∙◌}
 use Rattle.answers.specs.declared.EncapsulationRecord.TheVariants.{SealedEntry}
-use Rattle.answers.specs.Answers.{andThen}
-use Rattle.records.specs.Records.{c1Word, c2Word, first_of, second_of}
-use Rattle.records.proofs.Checks.{words-checked}
-use Rattle.sealed_records.specs.Front.{sealedFrontAnswer}
+use Rattle.answers.specs.Answers.{and_then}
+use Rattle.records.specs.Records.{c1_word, c2_word, first_of, second_of}
+use Rattle.records.proofs.Checks.{words_checked}
+use Rattle.sealed_records.specs.Front.{sealed_front_answer}
 use borrow.Author.Rules.{rules}
 use Rattle.sealed_records.proofs.read_sealed.Statement.{statement}
 use Rattle.sealed_records.proofs.read_sealed.Tie as tie
@@ -21,15 +21,15 @@ and-then-requires-2 : tie.Need-and-then-requires-2
 and-then-requires-2 c κs = search rules
 
 returns : tie.Need-returns
-unfolding sealedFrontAnswer
+unfolding sealed_front_answer
 returns c =
     let judged = c.before.before.before.before in
     let read = judged.before in
     let args = read.before.before.args in
     let bytes = args.bytes.now in
     let (header, (elements, places)) = read.read-record.ensures in
-    let words = words-checked (c1Word SealedEntry) (c2Word SealedEntry) (first_of bytes) (second_of bytes) places judged.sealed-words-answer.ensures in
-    (c.and-then2.ensures ∙ ap₂ andThen header (c.before.and_then.ensures ∙ ap (andThen args.between) words), elements)
+    let words = words_checked (c1_word SealedEntry) (c2_word SealedEntry) (first_of bytes) (second_of bytes) places judged.sealed-words-answer.ensures in
+    (c.and-then2.ensures ∙ ap₂ and_then header (c.before.and_then.ensures ∙ ap (and_then args.between) words), elements)
 
 pub read-sealed-spec : {M : Type 1} → statement M
 read-sealed-spec =

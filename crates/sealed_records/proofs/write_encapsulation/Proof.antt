@@ -3,11 +3,11 @@ use mathlib.Core.List.{List, ◌++◌}
 use Prim.Native.Nat.{ℕ}
 use native.Mathlib.Omega.{arith}
 use lib.ListN.{length, take}
-use Rattle.encoding.specs.Words.{elementBytes}
-use Rattle.encoding.proofs.Words.{length-elementBytes}
-use Rattle.encoding.specs.Buffers.{putFront}
+use Rattle.encoding.specs.Words.{element_bytes}
+use Rattle.encoding.proofs.Words.{length-element_bytes}
+use Rattle.encoding.specs.Buffers.{put_front}
 use Rattle.encoding.proofs.Buffers.{put_first, put-part, put_all}
-use Rattle.records.specs.Records.{encapsulationBytes}
+use Rattle.records.specs.Records.{encapsulation_bytes}
 use Rattle.records.proofs.Writing.{argument_is}
 use borrow.Author.Rules.{rules}
 use Rattle.sealed_records.proofs.write_encapsulation.Statement.{statement}
@@ -41,18 +41,18 @@ same_length : tie.Need-same-length
 same_length c = search rules
 
 returns : tie.Need-returns
-unfolding encapsulationBytes
+unfolding encapsulation_bytes
 returns c =
     let start = c.before.before.before.before.before.before.before.before.before in
     let old = start.args.out.now in
-    let c1 = elementBytes start.args.c1 in
-    let c2 = elementBytes start.args.c2 in
+    let c1 = element_bytes start.args.c1 in
+    let c2 = element_bytes start.args.c2 in
     let size : length old ≡ 4096 = start.requires in
     let first =
-    argument_is (λ (x : List ℕ). putFront (elementBytes x) (take 2048 old)) _ start.args.c1
+    argument_is (λ (x : List ℕ). put_front (element_bytes x) (take 2048 old)) _ start.args.c1
     c.before.before.before.before.before.before.encode-element.ensures refl in
-    put-part c1 c2 old _ 2048 2048 (put_first c1 old 2048 (length-elementBytes start.args.c1) (omega arith) first)
-    (length-elementBytes start.args.c1) (length-elementBytes start.args.c2) refl (omega arith) c.before.before.encode-element2.ensures
+    put-part c1 c2 old _ 2048 2048 (put_first c1 old 2048 (length-element_bytes start.args.c1) (omega arith) first)
+    (length-element_bytes start.args.c1) (length-element_bytes start.args.c2) refl (omega arith) c.before.before.encode-element2.ensures
     ∙ put_all (c1 ++ c2) old 4096 (omega arith)
 
 pub write-encapsulation-spec : {M : Type 1} → statement M

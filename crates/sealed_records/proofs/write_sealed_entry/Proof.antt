@@ -3,9 +3,9 @@ use mathlib.Core.List.{◌++◌}
 use native.Mathlib.Omega.{arith}
 use lib.ListN.{length, length-append}
 use Rattle.encoding.proofs.Buffers.{put-plain, put_all}
-use Rattle.records.specs.Layout.{sealedEntryMark, sealedEntryLength, blockLength, thirdPlace, tagPlace}
-use Rattle.records.specs.Records.{recordBytes}
-use Rattle.records.proofs.Writing.{length-recordBytes}
+use Rattle.records.specs.Layout.{sealed_entry_mark, sealed_entry_length, block_length, third_place, tag_place}
+use Rattle.records.specs.Records.{record_bytes}
+use Rattle.records.proofs.Writing.{length-record_bytes}
 use borrow.Author.Rules.{rules}
 use Rattle.sealed_records.proofs.write_sealed_entry.Statement.{statement}
 use Rattle.sealed_records.proofs.write_sealed_entry.Tie as tie
@@ -45,15 +45,15 @@ returns c =
     let start = c.before.before.before.before.before.before.before.before.before.before.before.before.before in
     let args = start.args in
     let old = args.out.now in
-    let front = recordBytes sealedEntryMark 1 args.c1 args.c2 in
-    let size : length old ≡ sealedEntryLength = start.requires in
-    let body : length args.body ≡ blockLength = search rules in
-    let sf : length front ≡ thirdPlace = length-recordBytes sealedEntryMark 1 args.c1 args.c2 in
-    let sb : length (front ++ args.body) ≡ tagPlace = omega (arith, length-append front args.body) in
+    let front = record_bytes sealed_entry_mark 1 args.c1 args.c2 in
+    let size : length old ≡ sealed_entry_length = start.requires in
+    let body : length args.body ≡ block_length = search rules in
+    let sf : length front ≡ third_place = length-record_bytes sealed_entry_mark 1 args.c1 args.c2 in
+    let sb : length (front ++ args.body) ≡ tag_place = omega (arith, length-append front args.body) in
     let first = c.before.before.before.before.before.before.before.before.before.before.write-record.ensures in
-    let second = put-plain front args.body old _ thirdPlace blockLength first sf refl c.before.before.before.before.before.before.write-block.ensures in
-    put-plain (front ++ args.body) args.tag old _ tagPlace blockLength second sb refl c.before.before.write-block2.ensures
-    ∙ put_all (front ++ args.body ++ args.tag) old sealedEntryLength (omega arith)
+    let second = put-plain front args.body old _ third_place block_length first sf refl c.before.before.before.before.before.before.write-block.ensures in
+    put-plain (front ++ args.body) args.tag old _ tag_place block_length second sb refl c.before.before.write-block2.ensures
+    ∙ put_all (front ++ args.body ++ args.tag) old sealed_entry_length (omega arith)
 
 pub write-sealed-entry-spec : {M : Type 1} → statement M
 write-sealed-entry-spec =

@@ -1,10 +1,10 @@
 use mathlib.Core.Path.{◌∙◌}
 use Rattle.ntt.proofs.Factors.{forward-size, backward-size}
 use Rattle.scheme.specs.Answers.{triple_of}
-use Rattle.answers.proofs.AnswerLaws.{then-nothing}
-use Rattle.public_keys.specs.PublicKeys.{publicA, publicB}
+use Rattle.answers.proofs.AnswerLaws.{then_nothing}
+use Rattle.public_keys.specs.PublicKeys.{public_a, public_b}
 use Rattle.public_keys.proofs.EitherKind.{length-a, length-b}
-use Rattle.sealing.proofs.Laws.{masked-both}
+use Rattle.sealing.proofs.Laws.{masked_both}
 use borrow.Author.Rules.{rules}
 use Rattle.sealing.proofs.encapsulate_noise.Statement.{statement}
 use Rattle.sealing.proofs.encapsulate_noise.Tie as tie
@@ -41,8 +41,8 @@ returns c =
     let k = read.before.before.before.before.before.before.before.before.args.key.now in
     let (checked, (a, b)) = read.read-public-key.ensures in
     let (answer, (c1, c2)) = made.encapsulate-with.ensures in
-    let both = masked-both (publicA k) (publicB k) (length-a k) (length-b k) a b (triple_of triple.noise-triple.result) c1 c2 in
-    (answer ∙ then-nothing read.read-public-key.result.answer ∙ checked, (triple.noise-triple.ensures, both))
+    let both = masked_both (public_a k) (public_b k) (length-a k) (length-b k) a b (triple_of triple.noise-triple.result) c1 c2 in
+    (answer ∙ then_nothing read.read-public-key.result.answer ∙ checked, (triple.noise-triple.ensures, both))
 
 pub encapsulate-noise-spec : {M : Type 1} → statement M
 encapsulate-noise-spec =

@@ -1,6 +1,6 @@
 use mathlib.Core.Path.{ap₂, ◌∙◌}
-use Rattle.answers.specs.Answers.{andThen}
-use Rattle.public_keys.specs.PublicKeys.{publicA, publicB}
+use Rattle.answers.specs.Answers.{and_then}
+use Rattle.public_keys.specs.PublicKeys.{public_a, public_b}
 use Rattle.public_keys.proofs.EitherKind.{length-a, length-b}
 use Rattle.ntt.proofs.Factors.{forward-size, backward-size}
 use Rattle.sealing.proofs.Laws.{encapsulated-through}
@@ -43,8 +43,8 @@ returns c =
     let k = read.before.before.before.before.before.before.before.before.args.key.now in
     let (checked, (a, b)) = read.read-public-key.ensures in
     let (answer, (c1, c2)) = c.encapsulate-with.ensures in (
-      answer ∙ ap₂ andThen checked codes.check-triple.ensures,
-      encapsulated-through (publicA k) (publicB k) (length-a k) (length-b k) a b c1 c2 triple.read-triple.ensures,
+      answer ∙ ap₂ and_then checked codes.check-triple.ensures,
+      encapsulated-through (public_a k) (public_b k) (length-a k) (length-b k) a b c1 c2 triple.read-triple.ensures,
     )
 
 pub encapsulate-records-spec : {M : Type 1} → statement M

@@ -1,6 +1,6 @@
 use mathlib.Core.Path.{sym, ap₂, ◌∙◌}
-use Rattle.answers.proofs.AnswerLaws.{on-done}
-use Rattle.records.specs.Records.{sealedEntryBytes}
+use Rattle.answers.proofs.AnswerLaws.{on_done_lem}
+use Rattle.records.specs.Records.{sealed_entry_bytes}
 use borrow.Author.Rules.{rules}
 use Rattle.sealing.proofs.write_sealed.Statement.{statement}
 use Rattle.sealing.proofs.write_sealed.Tie as tie
@@ -39,8 +39,8 @@ returns c =
     let args = told.before.before.before.before.args in
     let (body, tag) = put.protect.ensures in
     c.before.before.write-sealed-entry.ensures
-    ∙ ap₂ (sealedEntryBytes args.c1 args.c2) body tag
-    ∙ sym (on-done _ _ told.enum_told.given.1)
+    ∙ ap₂ (sealed_entry_bytes args.c1 args.c2) body tag
+    ∙ sym (on_done_lem _ _ told.enum_told.given.1)
 
 returns-2 : tie.Need-returns-2
 returns-2 c = search rules

@@ -1,8 +1,8 @@
 use mathlib.Core.Path.{◌≡◌, refl, sym, ◌∙◌}
 use Rattle.answers.specs.declared.Answer.TheVariants.{Done}
-use Rattle.secret_keys.specs.SecretKeys.{expanded?, layoutAnswer}
-use Rattle.secret_keys.proofs.Checks.{layout-size, layout-long}
-use Rattle.secret_keys.proofs.Joined.{content-joined, says-as, says-refused}
+use Rattle.secret_keys.specs.SecretKeys.{is_expanded, layout_answer}
+use Rattle.secret_keys.proofs.Checks.{layout-size, layout_long}
+use Rattle.secret_keys.proofs.Joined.{content_joined, says_as, says_refused}
 use borrow.Author.Rules.{rules}
 use Rattle.secret_keys.proofs.check_secret_key.Statement.{statement}
 use Rattle.secret_keys.proofs.check_secret_key.Tie as tie
@@ -17,7 +17,7 @@ read-shared-requires : tie.Need-read-shared-requires
 read-shared-requires c κs =
     let read = c.before.before in
     let start = read.before.before.before.before in
-    (layout-long start.args.bytes.now (sym read.check-layout.ensures ∙ c.enum_told.given.1), start.requires)
+    (layout_long start.args.bytes.now (sym read.check-layout.ensures ∙ c.enum_told.given.1), start.requires)
 
 check-unit-requires : tie.Need-check-unit-requires
 check-unit-requires c κs =
@@ -39,10 +39,10 @@ returns c =
     let shared = unit.before.before in
     let read = shared.before.before.before in
     let k = read.before.before.before.before.args.bytes.now in
-    let passed : layoutAnswer k ≡ Done = sym read.check-layout.ensures ∙ shared.before.enum_told.given.1 in
+    let passed : layout_answer k ≡ Done = sym read.check-layout.ensures ∙ shared.before.enum_told.given.1 in
     let ((pair, codes, matches), spectra) = shared.read-shared.ensures in
     let (stored, found) = unit.check-unit.ensures in
-    says-as k (expanded? k) refl passed (content-joined k (expanded? k) pair stored c.before.and_then.ensures codes found matches c.content-answer.ensures)
+    says_as k (is_expanded k) refl passed (content_joined k (is_expanded k) pair stored c.before.and_then.ensures codes found matches c.content-answer.ensures)
 
 enum-told-2 : tie.Need-enum-told-2
 enum-told-2 c = search rules
@@ -50,7 +50,7 @@ enum-told-2 c = search rules
 returns-2 : tie.Need-returns-2
 returns-2 c =
     let read = c.before.before in
-    says-refused read.before.before.before.before.args.bytes.now read.check-layout.ensures c.enum-told2.given.1
+    says_refused read.before.before.before.before.args.bytes.now read.check-layout.ensures c.enum-told2.given.1
 
 pub check-secret-key-spec : {M : Type 1} → statement M
 check-secret-key-spec =

@@ -1,7 +1,7 @@
 use mathlib.Core.Path.{ap, ◌∙◌}
 use mathlib.Core.Bool.{true}
 use Rattle.secret_keys.specs.SecretKeys.{length_of}
-use Rattle.secret_keys.proofs.Joined.{expanded-by, plain_by, unit-plain, unit-as}
+use Rattle.secret_keys.proofs.Joined.{expanded_by, plain_by, unit-plain, unit_as}
 use borrow.Author.Rules.{rules}
 use Rattle.secret_keys.proofs.check_unit.Statement.{statement}
 use Rattle.secret_keys.proofs.check_unit.Tie as tie
@@ -14,14 +14,14 @@ stored-unit-requires c κs =
     let start = c.before.before.before.before in
     let k = start.args.bytes.now in
     let (size, b, factors) = start.requires in
-    (size ∙ ap length_of (expanded-by k c.before.version.ensures c.if1.true), b, factors)
+    (size ∙ ap length_of (expanded_by k c.before.version.ensures c.if1.true), b, factors)
 
 returns : tie.Need-returns
 returns c =
     let at = c.before in
     let k = at.before.before.before.before.args.bytes.now in
     let (words, answer, inverse) = c.stored-unit.ensures in
-    unit-as k true (expanded-by k at.before.version.ensures at.if1.true) words answer
+    unit_as k true (expanded_by k at.before.version.ensures at.if1.true) words answer
 
 plain-unit-requires : tie.Need-plain-unit-requires
 plain-unit-requires c κs = search rules

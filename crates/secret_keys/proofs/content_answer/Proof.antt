@@ -1,5 +1,5 @@
 use mathlib.Core.Path.{ap, ◌∙◌}
-use Rattle.answers.specs.Answers.{andThen}
+use Rattle.answers.specs.Answers.{and_then}
 use borrow.Author.Rules.{rules}
 use Rattle.secret_keys.proofs.content_answer.Statement.{statement}
 use Rattle.secret_keys.proofs.content_answer.Tie as tie
@@ -16,7 +16,7 @@ and-then-requires-3 c κs = search rules
 returns : tie.Need-returns
 returns c =
     let args = c.before.before.before.args in
-    c.and-then3.ensures ∙ ap (andThen args.words) (c.before.and-then2.ensures ∙ ap (andThen args.codes) c.before.before.and_then.ensures)
+    c.and-then3.ensures ∙ ap (and_then args.words) (c.before.and-then2.ensures ∙ ap (and_then args.codes) c.before.before.and_then.ensures)
 
 pub content-answer-spec : {M : Type 1} → statement M
 content-answer-spec =

@@ -1,8 +1,8 @@
 use mathlib.Core.Path.{◌≡◌, refl, sym, ◌∙◌}
 use Rattle.answers.specs.declared.Answer.TheVariants.{Done}
-use Rattle.secret_keys.specs.SecretKeys.{expanded?, layoutAnswer}
-use Rattle.secret_keys.proofs.Checks.{layout-size, layout-long}
-use Rattle.secret_keys.proofs.Joined.{content-joined, read_as, read-nothing}
+use Rattle.secret_keys.specs.SecretKeys.{is_expanded, layout_answer}
+use Rattle.secret_keys.proofs.Checks.{layout-size, layout_long}
+use Rattle.secret_keys.proofs.Joined.{content_joined, read_as, read_nothing}
 use borrow.Author.Rules.{rules}
 use Rattle.secret_keys.proofs.read_secret_key.Statement.{statement}
 use Rattle.secret_keys.proofs.read_secret_key.Tie as tie
@@ -17,7 +17,7 @@ read-shared-requires : tie.Need-read-shared-requires
 read-shared-requires c κs =
     let read = c.before.before in
     let start = read.before.before.before.before in
-    (layout-long start.args.bytes.now (sym read.check-layout.ensures ∙ c.enum_told.given.1), start.requires)
+    (layout_long start.args.bytes.now (sym read.check-layout.ensures ∙ c.enum_told.given.1), start.requires)
 
 read-unit-requires : tie.Need-read-unit-requires
 read-unit-requires c κs =
@@ -39,10 +39,10 @@ returns c =
     let shared = unit.before.before.before.before in
     let read = shared.before.before.before in
     let k = read.before.before.before.before.args.bytes.now in
-    let passed : layoutAnswer k ≡ Done = sym read.check-layout.ensures ∙ shared.before.enum_told.given.1 in
+    let passed : layout_answer k ≡ Done = sym read.check-layout.ensures ∙ shared.before.enum_told.given.1 in
     let ((pair, codes, matches), spectra) = shared.read-shared.ensures in
     let (stored, found, inverse) = unit.read-unit.ensures in
-    read_as k (expanded? k) refl passed (content-joined k (expanded? k) pair stored c.before.and_then.ensures codes found matches c.content-answer.ensures) spectra inverse
+    read_as k (is_expanded k) refl passed (content_joined k (is_expanded k) pair stored c.before.and_then.ensures codes found matches c.content-answer.ensures) spectra inverse
 
 enum-told-2 : tie.Need-enum-told-2
 enum-told-2 c = search rules
@@ -50,7 +50,7 @@ enum-told-2 c = search rules
 returns-2 : tie.Need-returns-2
 returns-2 c =
     let read = c.before.before in
-    read-nothing read.before.before.before.before.args.bytes.now read.check-layout.ensures c.enum-told2.given.1
+    read_nothing read.before.before.before.before.args.bytes.now read.check-layout.ensures c.enum-told2.given.1
 
 pub read-secret-key-spec : {M : Type 1} → statement M
 read-secret-key-spec =

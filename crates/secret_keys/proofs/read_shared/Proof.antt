@@ -3,16 +3,16 @@ use mathlib.Core.Bool.{Bool}
 use mathlib.Core.List.{List}
 use Prim.Native.Nat.{ℕ}
 use Rattle.lists.proofs.Equal.{ap₃}
-use Rattle.ntt.specs.Spectrum.{spectrumOf}
-use Rattle.ring.specs.Centred.{within?}
-use Rattle.scheme.specs.Scheme.{keyError}
+use Rattle.ntt.specs.Spectrum.{spectrum_of}
+use Rattle.ring.specs.Centred.{is_within}
+use Rattle.scheme.specs.Scheme.{key_error}
 use Rattle.answers.specs.declared.KeyRecord.TheVariants.{SecretKey}
 use Rattle.answers.specs.declared.Refusal.TheVariants.{KeyMismatch}
 use Rattle.answers.specs.declared.Answer.TheVariants.{Done}
 use Rattle.answers.specs.Answers.{unless}
-use Rattle.records.specs.Records.{aWord, bWord, first_of, second_of}
-use Rattle.records.proofs.Checks.{words-checked}
-use Rattle.secret_keys.specs.SecretKeys.{matchAnswer}
+use Rattle.records.specs.Records.{a_word, b_word, first_of, second_of}
+use Rattle.records.proofs.Checks.{words_checked}
+use Rattle.secret_keys.specs.SecretKeys.{match_answer}
 use borrow.Author.Rules.{rules}
 use Rattle.secret_keys.proofs.read_shared.Statement.{statement}
 use Rattle.secret_keys.proofs.read_shared.Tie as tie
@@ -54,7 +54,7 @@ unless-requires : tie.Need-unless-requires
 unless-requires c κs = search rules
 
 returns : tie.Need-returns
-unfolding matchAnswer
+unfolding match_answer
 returns c =
     let checked = c.before.before.before in
     let made = checked.before in
@@ -63,12 +63,12 @@ returns c =
     let read = judged.before.before.before.before.before in
     let k = read.before.before.before.before.args.bytes.now in
     let ((a, b), places) = read.read-pair.ensures in
-    let words = words-checked (aWord SecretKey) (bWord SecretKey) (first_of k) (second_of k) places judged.before.before.before.before.words-answer.ensures in
+    let words = words_checked (a_word SecretKey) (b_word SecretKey) (first_of k) (second_of k) places judged.before.before.before.before.words-answer.ensures in
     let s = decoded.decode-ternary.ensures in
     let key = made.check-key.ensures in
     let matches = checked.unless.ensures
-    ∙ ap (λ (t : Bool). unless t KeyMismatch Done) (key.0 ∙ ap₃ (λ (x y z : List ℕ). within? 1 (keyError x y z)) a b s) in
-    ((words, judged.check-codes.ensures, matches), (key.1.0 ∙ ap spectrumOf a, key.1.1 ∙ ap spectrumOf b, key.1.2 ∙ ap spectrumOf s))
+    ∙ ap (λ (t : Bool). unless t KeyMismatch Done) (key.0 ∙ ap₃ (λ (x y z : List ℕ). is_within 1 (key_error x y z)) a b s) in
+    ((words, judged.check-codes.ensures, matches), (key.1.0 ∙ ap spectrum_of a, key.1.1 ∙ ap spectrum_of b, key.1.2 ∙ ap spectrum_of s))
 
 pub read-shared-spec : {M : Type 1} → statement M
 read-shared-spec =

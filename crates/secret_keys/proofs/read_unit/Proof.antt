@@ -1,11 +1,11 @@
 use mathlib.Core.Path.{ap, ◌∙◌}
 use mathlib.Core.Bool.{true, false}
-use Rattle.ring.specs.Reciprocals.{reciprocalsOf}
+use Rattle.ring.specs.Reciprocals.{reciprocals_of}
 use Rattle.ring.proofs.Transforms.{inverse-spectrum}
-use Rattle.encoding.proofs.Words.{length-elementOf}
+use Rattle.encoding.proofs.Words.{length-element_of}
 use Rattle.records.specs.Records.{second_of}
 use Rattle.secret_keys.specs.SecretKeys.{length_of}
-use Rattle.secret_keys.proofs.Joined.{expanded-by, plain_by, unit-plain, unit-as, inverse-as}
+use Rattle.secret_keys.proofs.Joined.{expanded_by, plain_by, unit-plain, unit_as, inverse_as}
 use borrow.Author.Rules.{rules}
 use Rattle.secret_keys.proofs.read_unit.Statement.{statement}
 use Rattle.secret_keys.proofs.read_unit.Tie as tie
@@ -18,16 +18,16 @@ stored-unit-requires c κs =
     let start = c.before.before.before.before in
     let k = start.args.bytes.now in
     let (size, b, factors) = start.requires in
-    (size ∙ ap length_of (expanded-by k c.before.version.ensures c.if1.true), b, factors)
+    (size ∙ ap length_of (expanded_by k c.before.version.ensures c.if1.true), b, factors)
 
 returns : tie.Need-returns
 returns c =
     let at = c.before in
     let k = at.before.before.before.before.args.bytes.now in
-    let kind = expanded-by k at.before.version.ensures at.if1.true in
+    let kind = expanded_by k at.before.version.ensures at.if1.true in
     let (words, answer, inverse) = c.stored-unit.ensures in
-    let (w, a) = unit-as k true kind words answer in
-    (w, a, inverse-as k true kind inverse)
+    let (w, a) = unit_as k true kind words answer in
+    (w, a, inverse_as k true kind inverse)
 
 plain-unit-requires : tie.Need-plain-unit-requires
 plain-unit-requires c κs = search rules
@@ -44,7 +44,7 @@ returns-2 c =
     let (_, b, _) = start.requires in
     let kind = plain_by k at.before.version.ensures at.if1.false in
     let (w, a) = unit-plain k kind b judged.plain-unit.ensures in
-    (w, a, inverse-as k false kind (c.reciprocals.ensures ∙ ap reciprocalsOf b ∙ inverse-spectrum (second_of k) (length-elementOf _)))
+    (w, a, inverse_as k false kind (c.reciprocals.ensures ∙ ap reciprocals_of b ∙ inverse-spectrum (second_of k) (length-element_of _)))
 
 pub read-unit-spec : {M : Type 1} → statement M
 read-unit-spec =

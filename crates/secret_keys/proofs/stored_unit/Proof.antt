@@ -2,16 +2,16 @@ use mathlib.Core.Path.{ap, ap₂, ◌∙◌}
 use mathlib.Core.Bool.{Bool, decide}
 use mathlib.Core.List.{List}
 use Prim.Native.Nat.{ℕ}
-use Rattle.ntt.specs.Spectrum.{spectrumOf, coefficientsOf}
-use Rattle.ring.specs.Invertible.{inverse?}
-use Rattle.ring.proofs.Inverses.{inverse-through}
-use Rattle.encoding.specs.Words.{firstUnreduced}
-use Rattle.encoding.proofs.Words.{length-elementOf}
+use Rattle.ntt.specs.Spectrum.{spectrum_of, coefficients_of}
+use Rattle.ring.specs.Invertible.{is_inverse}
+use Rattle.ring.proofs.Inverses.{inverse_through}
+use Rattle.encoding.specs.Words.{first_unreduced}
+use Rattle.encoding.proofs.Words.{length-element_of}
 use Rattle.answers.specs.declared.Refusal.TheVariants.{InverseMismatch}
 use Rattle.answers.specs.declared.Answer.TheVariants.{Done}
 use Rattle.answers.specs.Answers.{unless}
-use Rattle.records.specs.Records.{second_of, storedInverse}
-use Rattle.secret_keys.specs.SecretKeys.{unitAnswer}
+use Rattle.records.specs.Records.{second_of, stored_inverse}
+use Rattle.secret_keys.specs.SecretKeys.{unit_answer}
 use Rattle.secret_keys.proofs.Joined.{stored-words}
 use borrow.Author.Rules.{rules}
 use Rattle.secret_keys.proofs.stored_unit.Statement.{statement}
@@ -45,7 +45,7 @@ unless-requires : tie.Need-unless-requires
 unless-requires c κs = search rules
 
 returns : tie.Need-returns
-unfolding unitAnswer
+unfolding unit_answer
 returns c =
     let tested = c.before in
     let worded = tested.before.before in
@@ -54,11 +54,11 @@ returns c =
     let k = start.args.bytes.now in
     let (_, b, _) = start.requires in
     let i = stored.decode-element.ensures in
-    let inverse = tested.before.forward.ensures ∙ ap spectrumOf i in
+    let inverse = tested.before.forward.ensures ∙ ap spectrum_of i in
     let decided = tested.are-inverses.ensures
-    ∙ ap₂ (λ (x y : List ℕ). decide (inverse? (coefficientsOf x) (coefficientsOf y))) b inverse
-    ∙ inverse-through (second_of k) (storedInverse k) (length-elementOf _) (length-elementOf _) in (
-      stored-words k (worded.before.first-unreduced.ensures ∙ ap firstUnreduced i) worded.inverse-words-answer.ensures,
+    ∙ ap₂ (λ (x y : List ℕ). decide (is_inverse (coefficients_of x) (coefficients_of y))) b inverse
+    ∙ inverse_through (second_of k) (stored_inverse k) (length-element_of _) (length-element_of _) in (
+      stored-words k (worded.before.first-unreduced.ensures ∙ ap first_unreduced i) worded.inverse-words-answer.ensures,
       c.unless.ensures ∙ ap (λ (t : Bool). unless t InverseMismatch Done) decided,
       inverse,
     )

@@ -1,6 +1,6 @@
 use mathlib.Core.Path.{refl, ap, ◌∙◌}
-use Rattle.encoding.specs.Words.{elementOf, firstUnreduced}
-use Rattle.records.specs.Layout.{elementLength, seededBPlace}
+use Rattle.encoding.specs.Words.{element_of, first_unreduced}
+use Rattle.records.specs.Layout.{element_length, seeded_bPlace}
 use Rattle.records.specs.Records.{part}
 use Rattle.records.proofs.Writing.{argument_is}
 use borrow.Author.Rules.{rules}
@@ -29,8 +29,8 @@ returns : tie.Need-returns
 returns c =
     let read = c.before.before in
     let bytes = read.before.before.before.args.bytes.now in
-    let b = argument_is elementOf _ (part seededBPlace elementLength bytes) read.decode-element.ensures refl in
-    (c.before.check-header.ensures, (b, c.first-unreduced.ensures ∙ ap firstUnreduced b))
+    let b = argument_is element_of _ (part seeded_bPlace element_length bytes) read.decode-element.ensures refl in
+    (c.before.check-header.ensures, (b, c.first-unreduced.ensures ∙ ap first_unreduced b))
 
 pub read-seeded-key-spec : {M : Type 1} → statement M
 read-seeded-key-spec =

@@ -3,12 +3,12 @@ use mathlib.Core.List.{◌++◌}
 use native.Mathlib.Omega.{arith}
 use lib.ListN.{length, length-append}
 use Rattle.encoding.specs.Header.{header}
-use Rattle.encoding.specs.Words.{elementBytes}
-use Rattle.encoding.proofs.Words.{length-elementBytes}
-use Rattle.encoding.proofs.Headers.{length-header}
+use Rattle.encoding.specs.Words.{element_bytes}
+use Rattle.encoding.proofs.Words.{length-element_bytes}
+use Rattle.encoding.proofs.Headers.{length_header_lem}
 use Rattle.encoding.proofs.Buffers.{put_first, put-plain, put-part, put_all}
-use Rattle.records.specs.Layout.{seededKeyMark, seedLength, seededKeyLength}
-use Rattle.records.specs.Records.{seededKeyBytes}
+use Rattle.records.specs.Layout.{seeded_key_mark, seed_length, seeded_key_length}
+use Rattle.records.specs.Records.{seeded_key_bytes}
 use borrow.Author.Rules.{rules}
 use Rattle.seeded_records.proofs.write_seeded_key.Statement.{statement}
 use Rattle.seeded_records.proofs.write_seeded_key.Tie as tie
@@ -53,23 +53,23 @@ same_length : tie.Need-same-length
 same_length c = search rules
 
 returns : tie.Need-returns
-unfolding seededKeyBytes
+unfolding seeded_key_bytes
 returns c =
     let start = c.before.before.before.before.before.before.before.before.before.before.before.before.before.before in
     let args = start.args in
     let old = args.out.now in
     let seed = args.seed.now in
-    let h = header seededKeyMark 1 in
-    let b = elementBytes args.b in
-    let room : length old ≡ seededKeyLength = start.requires.1 in
-    let sh : length h ≡ 5 = length-header seededKeyMark 1 in
-    let ss : length seed ≡ seedLength = start.requires.0 in
-    let sb : length b ≡ 2048 = length-elementBytes args.b in
+    let h = header seeded_key_mark 1 in
+    let b = element_bytes args.b in
+    let room : length old ≡ seeded_key_length = start.requires.1 in
+    let sh : length h ≡ 5 = length_header_lem seeded_key_mark 1 in
+    let ss : length seed ≡ seed_length = start.requires.0 in
+    let sb : length b ≡ 2048 = length-element_bytes args.b in
     let shs : length (h ++ seed) ≡ 37 = omega (arith, length-append h seed) in
     let front = put_first h old 5 sh (omega arith) c.before.before.before.before.before.before.before.before.before.before.encode-header.ensures in
     let middle = put-plain h seed old _ 5 32 front sh refl c.before.before.before.before.before.before.copy.ensures in
     put-part (h ++ seed) b old _ 37 2048 middle shs sb refl (omega arith) c.before.before.encode-element.ensures
-    ∙ put_all (h ++ seed ++ b) old seededKeyLength (omega arith)
+    ∙ put_all (h ++ seed ++ b) old seeded_key_length (omega arith)
 
 pub write-seeded-key-spec : {M : Type 1} → statement M
 write-seeded-key-spec =

@@ -4,8 +4,8 @@ use Prim.Native.Nat.{ℕ}
 use native.Mathlib.Omega.{arith}
 use lib.ListN.{length}
 use lib.Seq.{take_all}
-use Rattle.sampling.specs.Stream.{taken, uniformElement}
-use Rattle.seeds.proofs.SeedStream.{length-seedStream}
+use Rattle.sampling.specs.Stream.{taken, uniform_element}
+use Rattle.seeds.proofs.SeedStream.{length-seed_stream}
 use borrow.Author.Rules.{rules}
 use Rattle.seeds.proofs.element.Statement.{statement}
 use Rattle.seeds.proofs.element.Tie as tie
@@ -28,10 +28,10 @@ uniform-requires c κs = search rules
 returns : tie.Need-returns
 returns c =
     let made = c.before.before.before.stream in
-    let size : length made.result ≡ 2688 = ap length made.ensures ∙ length-seedStream _ in
+    let size : length made.result ≡ 2688 = ap length made.ensures ∙ length-seed_stream _ in
     let words = take_all 2688 made.result (omega arith) ∙ made.ensures in
     let read = c.uniform.ensures in
-    (read.0 ∙ ap (λ (b : List ℕ). length (taken b)) words, read.1 ∙ ap uniformElement words)
+    (read.0 ∙ ap (λ (b : List ℕ). length (taken b)) words, read.1 ∙ ap uniform_element words)
 
 pub element-spec : {M : Type 1} → statement M
 element-spec =

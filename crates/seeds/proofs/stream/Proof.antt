@@ -1,5 +1,5 @@
 use borrow.Author.Rules.{rules}
-use Rattle.seeds.specs.Seeds.{seedStream}
+use Rattle.seeds.specs.Seeds.{seed_stream}
 use Rattle.seeds.proofs.stream.Statement.{statement}
 use Rattle.seeds.proofs.stream.Tie as tie
 
@@ -10,7 +10,7 @@ shake128-requires : tie.Need-shake128-requires
 shake128-requires c κs = search rules
 
 returns : tie.Need-returns
-unfolding seedStream
+unfolding seed_stream
 returns c = c.before.shake128.ensures
 
 pub stream-spec : {M : Type 1} → statement M

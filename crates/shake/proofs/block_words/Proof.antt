@@ -9,7 +9,7 @@ use Rattle.string_to_state.specs.Words.{word}
 use Rattle.string_to_state.proofs.Lanes.{words-zeros}
 use Rattle.shake.specs.Sponge.{block}
 use Rattle.shake.specs.Shake.{padded}
-use Rattle.shake.proofs.Blocks.{start_fits, last-place, rest-fits, block_inside, block-end}
+use Rattle.shake.proofs.Blocks.{start_fits, last_place, rest-fits, block_inside, block_end}
 use borrow.Author.Rules.{rules}
 use Rattle.shake.proofs.block_words.Statement.{statement}
 use Rattle.shake.proofs.block_words.Tie as tie
@@ -70,7 +70,7 @@ last-block-requires c κs =
     let start = c.before.before.before in
     let r = start.args.rate in
     let m = start.args.input.now in
-    let last : start.args.k ≡ length m / r = last-place r (length m) start.args.k start.requires.1 (omega (arith, c.before.if1.false)) in
+    let last : start.args.k ≡ length m / r = last_place r (length m) start.args.k start.requires.1 (omega (arith, c.before.if1.false)) in
     let fit = rest-fits r (length m) start.requires.0.some in
     (rw (last, length_part (r * (length m / r)) (length m) m (omega arith)) (omega (arith, fit.1, fit.2)), start.requires.0.most)
 
@@ -88,9 +88,9 @@ returns-2 c =
     let r = start.args.rate in
     let m = start.args.input.now in
     let k = start.args.k in
-    let last : k ≡ length m / r = last-place r (length m) k start.requires.1 (omega (arith, left.if1.false)) in
+    let last : k ≡ length m / r = last_place r (length m) k start.requires.1 (omega (arith, left.if1.false)) in
     c.words2.ensures
-    ∙ ap (λ (b : List ℕ). table 25 (word b)) (block-end r start.requires.0.some m k _ _ last refl made.last_block.ensures)
+    ∙ ap (λ (b : List ℕ). table 25 (word b)) (block_end r start.requires.0.some m k _ _ last refl made.last_block.ensures)
     ∙ words-zeros (block r k (padded r m)) (200 - r)
 
 pub block-words-spec : {M : Type 1} → statement M

@@ -1,5 +1,5 @@
 use native.Mathlib.Omega.{arith}
-use Rattle.shake.proofs.Blocks.{padding-one, padding-more}
+use Rattle.shake.proofs.Blocks.{padding-one, padding_more}
 use borrow.Author.Rules.{rules}
 use Rattle.shake.proofs.last_block.Statement.{statement}
 use Rattle.shake.proofs.last_block.Tie as tie
@@ -30,7 +30,7 @@ returns c =
 returns-2 : tie.Need-returns-2
 returns-2 c =
     let args = c.before.before.before.args in
-    rw c.before.zero-filled.ensures (padding-more args.t.now args.rate 200 (omega arith) (omega arith))
+    rw c.before.zero-filled.ensures (padding_more args.t.now args.rate 200 (omega arith) (omega arith))
 
 pub last-block-spec : {M : Type 1} → statement M
 last-block-spec =

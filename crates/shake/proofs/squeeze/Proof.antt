@@ -9,10 +9,10 @@ use Rattle.lists.specs.Table.{table}
 use Rattle.lists.proofs.Tables.{length-table}
 use Rattle.lists.proofs.Parts.{length_part}
 use Rattle.lists.proofs.Fill.{Filled, filled_none, filled-all}
-use Rattle.keccak.specs.Keccak.{keccakF}
+use Rattle.keccak.specs.Keccak.{keccak_f}
 use Rattle.shake.specs.Sponge.{permuted, squeeze}
 use Rattle.shake.proofs.Blocks.{block-fits, rest-fits}
-use Rattle.shake.proofs.Output.{byte_at, squeeze-table, squeeze-none, squeeze-part}
+use Rattle.shake.proofs.Output.{byte_at, squeeze-table, squeeze_none, squeeze-part}
 use borrow.Author.Rules.{rules}
 use Rattle.shake.proofs.squeeze.Statement.{statement}
 use Rattle.shake.proofs.squeeze.Tie as tie
@@ -25,7 +25,7 @@ abbrev decreases-loop : tie.decreases-loop
 decreases-loop rate out₀ n s₀ k₀ out s k = n - k
 
 returns : tie.Need-returns invariant-loop decreases-loop
-returns c = squeeze-none _ _ _ c.if1.true
+returns c = squeeze_none _ _ _ c.if1.true
 
 sub-n : tie.Need-overflow-sub-n invariant-loop decreases-loop
 sub-n c = search rules
@@ -89,7 +89,7 @@ loop-again c =
     let k = at-loop.loop.k in
     let next : r * k + r ≡ r * (k + 1) = rw (add-one, mul-suc) in (
       search rules,
-      rw add-one (c.keccak-f.ensures ∙ ap keccakF at-loop.loop.invariant.1),
+      rw add-one (c.keccak-f.ensures ∙ ap keccak_f at-loop.loop.invariant.1),
       rw (← next)
           (squeeze-part r start.requires start.args.s _ k (r * k + r) _ _ at-loop.loop.invariant.2 (omega arith) (omega (arith, fits c.before.before.before.before.before)) (omega arith)
           (rw at-loop.loop.invariant.1 at c.before.before.before.put-bytes.ensures)),

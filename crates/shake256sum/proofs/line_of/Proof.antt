@@ -6,8 +6,8 @@ use borrow.Author.Rules.{rules}
 use lib.ListN.{length, set, replicate}
 use lib.Seq.{take_all, set_at}
 use Rattle.shake.specs.Shake.{shake256}
-use Rattle.hex.specs.Hex.{text_of, written}
-use Rattle.hex.proofs.Text.{length-text}
+use Rattle.hexadecimal.specs.Hex.{text_of, written}
+use Rattle.hexadecimal.proofs.Text.{length_text}
 use Rattle.shake256sum.specs.Line.{line_of}
 use Rattle.shake256sum.proofs.line_of.Statement.{statement}
 use Rattle.shake256sum.proofs.line_of.Tie as tie
@@ -33,7 +33,7 @@ array-write-line c = search rules
 -- the text of 32 bytes fills all but the last of 65 bytes
 full : (output : List ℕ) → length output ≡ 32 → set (written (text_of output) (replicate 65 0)) 64 10 ≡ text_of output ++ (10 ∷ [])
 full output e =
-    let size : length (text_of output) ≡ 64 = omega (arith, length-text output) in
+    let size : length (text_of output) ≡ 64 = omega (arith, length_text output) in
     rw (take_all 65 (text_of output) (omega arith), size) (set_at (text_of output) 0 [] 10 64 size)
 
 returns : tie.Need-returns

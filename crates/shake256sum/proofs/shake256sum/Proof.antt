@@ -3,7 +3,7 @@ use native.Mathlib.Omega.{arith}
 use lib.ListN.{length}
 use Rattle.lists.specs.Table.{zeros}
 use Rattle.shake256sum.specs.Line.{line_of}
-use Rattle.shake256sum.proofs.Printing.{within, above, written-whole}
+use Rattle.shake256sum.proofs.Printing.{within, above, written_whole}
 use borrow.Author.Rules.{rules}
 use Rattle.shake256sum.proofs.shake256sum.Statement.{statement}
 use Rattle.shake256sum.proofs.shake256sum.Tie as tie
@@ -23,7 +23,7 @@ returns-2 c =
     let made = c.Line-of.ensures in
     let size : length c.Line-of.result ≡ 65 = search rules in
     let whole : length (line_of input) ≡ 65 = sym (ap length made) ∙ size in
-    rw (line, none) (made ∙ written-whole (line_of input) (zeros 65) whole, ((sym whole, omega arith), (refl, (refl, omega arith))))
+    rw (line, none) (made ∙ written_whole (line_of input) (zeros 65) whole, ((sym whole, omega arith), (refl, (refl, omega arith))))
 
 pub shake256sum-spec : {M : Type 1} → statement M
 shake256sum-spec = tie.close (tie.spec returns line-of-requires returns-2)

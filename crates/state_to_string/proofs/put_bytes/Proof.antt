@@ -6,8 +6,8 @@ use Rattle.lists.specs.Table.{table}
 use Rattle.lists.proofs.Tables.{length-table}
 use Rattle.lists.proofs.Fill.{Filled, filled_none, filled-part, filled-all}
 use Rattle.keccak_steps.specs.Steps.{lane}
-use Rattle.state_to_string.specs.Bytes.{laneByte, byte_of, bytes_of}
-use Rattle.state_to_string.proofs.LaneBytes.{lane-bytes, take-bytes, put_rest}
+use Rattle.state_to_string.specs.Bytes.{lane_byte, byte_of, bytes_of}
+use Rattle.state_to_string.proofs.LaneBytes.{lane_bytes_lem, take-bytes, put_rest}
 use borrow.Author.Rules.{rules}
 use Rattle.state_to_string.proofs.put_bytes.Statement.{statement}
 use Rattle.state_to_string.proofs.put_bytes.Tie as tie
@@ -63,8 +63,8 @@ loop-again c =
     let k = at-loop.loop.k in
     let size : 8 * k + 8 - 8 * k ≡ 8 = omega arith in
     let part = c.before.before.put_lane.ensures in
-    filled-part _ _ at-loop.loop.invariant (ap length part ∙ length-table 8 (laneByte _) ∙ sym size) (omega arith) (omega arith)
-    (part ∙ rw size (lane-bytes at-loop.before.before.args.t1 k 8 _ (omega arith) (omega arith)))
+    filled-part _ _ at-loop.loop.invariant (ap length part ∙ length-table 8 (lane_byte _) ∙ sym size) (omega arith) (omega arith)
+    (part ∙ rw size (lane_bytes_lem at-loop.before.before.args.t1 k 8 _ (omega arith) (omega arith)))
 
 mul-at-2 : tie.Need-overflow-mul-at-2 invariant-loop decreases-loop
 mul-at-2 c = search rules

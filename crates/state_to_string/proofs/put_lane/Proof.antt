@@ -1,7 +1,7 @@
 use native.Mathlib.Omega.{arith}
 use lib.ListN.{length-set}
 use borrow.Author.Rules.{rules}
-use Rattle.state_to_string.proofs.LaneBytes.{put-eight}
+use Rattle.state_to_string.proofs.LaneBytes.{put_eight}
 use Rattle.state_to_string.proofs.put_lane.Statement.{statement}
 use Rattle.state_to_string.proofs.put_lane.Tie as tie
 
@@ -57,7 +57,7 @@ same_length : tie.Need-same-length
 same_length c = search rules
 
 returns : tie.Need-returns
-returns c = put-eight c.args.out.now c.args.v c.requires
+returns c = put_eight c.args.out.now c.args.v c.requires
 
 pub put-lane-spec : {M : Type 1} → statement M
 put-lane-spec =

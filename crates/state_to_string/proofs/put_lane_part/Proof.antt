@@ -5,13 +5,13 @@ use lib.ListN.{length}
 use Rattle.lists.specs.Table.{table}
 use Rattle.lists.proofs.Tables.{length-table}
 use Rattle.lists.proofs.Fill.{Filled, filled_none, filled-more-by, filled-all}
-use Rattle.state_to_string.specs.Bytes.{laneByte}
+use Rattle.state_to_string.specs.Bytes.{lane_byte}
 use borrow.Author.Rules.{rules}
 use Rattle.state_to_string.proofs.put_lane_part.Statement.{statement}
 use Rattle.state_to_string.proofs.put_lane_part.Tie as tie
 
 abbrev invariant-loop : tie.invariant-loop
-invariant-loop out₀ v n j₀ out j = Filled n (table n (laneByte v)) out j
+invariant-loop out₀ v n j₀ out j = Filled n (table n (lane_byte v)) out j
 
 abbrev decreases-loop : tie.decreases-loop
 decreases-loop out₀ v n j₀ out j = n - j
@@ -38,7 +38,7 @@ loop-less : tie.Need-loop-smaller invariant-loop decreases-loop
 loop-less c = search rules
 
 loop-again : tie.Need-loop-preserved invariant-loop decreases-loop
-loop-again c = filled-more-by (laneByte _) 0 c.before.loop.invariant c.loop-test.true refl
+loop-again c = filled-more-by (lane_byte _) 0 c.before.loop.invariant c.loop-test.true refl
 
 same_length : tie.Need-same-length invariant-loop decreases-loop
 same_length c = search rules

@@ -1,7 +1,7 @@
 use mathlib.Core.Path.{◌≡◌, refl}
 use Prim.Native.Nat.{suc, ◌-◌}
 use native.Mathlib.Omega.{arith}
-use Rattle.text.proofs.Decimals.{Written, written_none, not_first, written-more, written_last}
+use Rattle.text.proofs.Decimals.{Written, written_none, not_first, written_more, written_last}
 use borrow.Author.Rules.{rules}
 use Rattle.text.proofs.decimal.Statement.{statement}
 use Rattle.text.proofs.decimal.Tie as tie
@@ -35,7 +35,7 @@ loop-less c = omega (arith, not_first c.before.loop.invariant c.loop-test.true)
 loop-again : tie.Need-loop-preserved invariant-loop decreases-loop
 loop-again c =
     let place : c.before.loop.i ≡ suc (c.before.loop.i - 1) = omega (arith, not_first c.before.loop.invariant c.loop-test.true) in
-    written-more c.before.loop.invariant c.loop-test.true refl place
+    written_more c.before.loop.invariant c.loop-test.true refl place
 
 cast-bytes-2 : tie.Need-overflow-cast-bytes-2 invariant-loop decreases-loop
 cast-bytes-2 c = search rules

@@ -1,6 +1,6 @@
 use mathlib.Core.Path.{ap₂, ◌∙◌}
-use Rattle.answers.specs.Answers.{andThen}
-use Rattle.triples.specs.Triple.{tripleAnswer}
+use Rattle.answers.specs.Answers.{and_then}
+use Rattle.triples.specs.Triple.{triple_answer}
 use borrow.Author.Rules.{rules}
 use Rattle.triples.proofs.check_triple.Statement.{statement}
 use Rattle.triples.proofs.check_triple.Tie as tie
@@ -48,12 +48,12 @@ and-then-requires-2 : tie.Need-and-then-requires-2
 and-then-requires-2 c κs = search rules
 
 returns : tie.Need-returns
-unfolding tripleAnswer
+unfolding triple_answer
 returns c =
     let checked = c.before.before in
     c.and-then2.ensures
-    ∙ ap₂ andThen checked.before.before.before.before.check-codes.ensures
-    (c.before.and_then.ensures ∙ ap₂ andThen checked.before.before.check-codes2.ensures checked.check-codes3.ensures)
+    ∙ ap₂ and_then checked.before.before.before.before.check-codes.ensures
+    (c.before.and_then.ensures ∙ ap₂ and_then checked.before.before.check-codes2.ensures checked.check-codes3.ensures)
 
 pub check-triple-spec : {M : Type 1} → statement M
 check-triple-spec =

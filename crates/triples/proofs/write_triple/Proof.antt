@@ -2,11 +2,11 @@ use mathlib.Core.Path.{◌≡◌, refl, sym, ◌∙◌}
 use mathlib.Core.List.{[], ◌++◌}
 use native.Mathlib.Omega.{arith}
 use lib.ListN.{length, length-append}
-use Rattle.encoding.specs.Codes.{ternaryBytes}
-use Rattle.encoding.proofs.Codes.{length-ternaryBytes}
-use Rattle.encoding.proofs.Buffers.{put_front, put-short}
-use Rattle.triples.specs.Triple.{tripleBytes}
-use Rattle.triples.proofs.Triples.{length-tripleBytes}
+use Rattle.encoding.specs.Codes.{ternary_bytes}
+use Rattle.encoding.proofs.Codes.{length-ternary_bytes}
+use Rattle.encoding.proofs.Buffers.{put_front_lem, put_short}
+use Rattle.triples.specs.Triple.{triple_bytes}
+use Rattle.triples.proofs.Triples.{length-triple_bytes}
 use Rattle.encoding.proofs.Buffers.{put-part}
 use borrow.Author.Rules.{rules}
 use Rattle.triples.proofs.write_triple.Statement.{statement}
@@ -52,25 +52,25 @@ same_length : tie.Need-same-length
 same_length c = search rules
 
 returns : tie.Need-returns
-unfolding tripleBytes
+unfolding triple_bytes
 returns c =
     let start = c.before.before.before.before.before.before.before.before.before.before.before.before.before.before in
     let old = start.args.out.now in
-    let a = ternaryBytes start.args.r in
-    let b = ternaryBytes start.args.e1 in
+    let a = ternary_bytes start.args.r in
+    let b = ternary_bytes start.args.e1 in
     let first =
-    put-part [] a old old 0 256 refl refl (length-ternaryBytes _) refl (omega arith)
+    put-part [] a old old 0 256 refl refl (length-ternary_bytes _) refl (omega arith)
     c.before.before.before.before.before.before.before.before.before.before.encode-ternary.ensures in
     let second =
-    put-part a b old _ 256 256 first (length-ternaryBytes _) (length-ternaryBytes _) refl (omega arith)
+    put-part a b old _ 256 256 first (length-ternary_bytes _) (length-ternary_bytes _) refl (omega arith)
     c.before.before.before.before.before.before.encode-ternary2.ensures in
-    let front : length (a ++ b) ≡ 512 = omega (arith, length-append a b, length-ternaryBytes start.args.r, length-ternaryBytes start.args.e1) in
-    put-part (a ++ b) (ternaryBytes start.args.e2) old _ 512 256 second front (length-ternaryBytes _) refl (omega arith)
+    let front : length (a ++ b) ≡ 512 = omega (arith, length-append a b, length-ternary_bytes start.args.r, length-ternary_bytes start.args.e1) in
+    put-part (a ++ b) (ternary_bytes start.args.e2) old _ 512 256 second front (length-ternary_bytes _) refl (omega arith)
     c.before.before.encode-ternary3.ensures
-    ∙ put_front _ old (length-tripleBytes _ _ _) (omega arith) refl
+    ∙ put_front_lem _ old (length-triple_bytes _ _ _) (omega arith) refl
 
 returns-2 : tie.Need-returns-2
-returns-2 c = sym (put-short _ _ (rw length-tripleBytes c.if1.false))
+returns-2 c = sym (put_short _ _ (rw length-triple_bytes c.if1.false))
 
 pub write-triple-spec : {M : Type 1} → statement M
 write-triple-spec =

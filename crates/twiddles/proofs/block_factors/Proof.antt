@@ -6,14 +6,14 @@ use Rattle.lists.proofs.Fill.{Filled, filled_none, filled-more-by, filled-all}
 use Rattle.lists.specs.Table.{table}
 use Rattle.lists.proofs.Tables.{length-table}
 use Rattle.twiddles.specs.Powers.{power}
-use Rattle.modq.specs.Montgomery.{montgomeryForm}
+use Rattle.modq.specs.Montgomery.{montgomery_form}
 use lib.ListN.{get_or}
 use borrow.Author.Rules.{rules}
 use Rattle.twiddles.proofs.block_factors.Statement.{statement}
 use Rattle.twiddles.proofs.block_factors.Tie as tie
 
 abbrev invariant-loop : tie.invariant-loop
-invariant-loop e t r₀ m₀ r m = Filled 1024 (table 1024 (λ m. montgomeryForm (power (get_or e m 0 % 1024)))) r m
+invariant-loop e t r₀ m₀ r m = Filled 1024 (table 1024 (λ m. montgomery_form (power (get_or e m 0 % 1024)))) r m
 
 abbrev decreases-loop : tie.decreases-loop
 decreases-loop e t r₀ m₀ r m = 1024 - m

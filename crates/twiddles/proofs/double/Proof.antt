@@ -4,7 +4,7 @@ use Prim.Native.Nat.{◌+◌, ◌-◌}
 use native.Mathlib.Omega.{arith}
 use lib.ListN.{take}
 use Rattle.lists.proofs.Fill.{Filled, filled-all}
-use Rattle.twiddles.proofs.Repeats.{doubled-none, doubled-more}
+use Rattle.twiddles.proofs.Repeats.{doubled_none, doubled_more}
 use borrow.Author.Rules.{rules}
 use Rattle.twiddles.proofs.double.Statement.{statement}
 use Rattle.twiddles.proofs.double.Tie as tie
@@ -16,7 +16,7 @@ abbrev decreases-loop : tie.decreases-loop
 decreases-loop w₀ m i₀ w i = m - i
 
 loop-holds : tie.Need-loop-init invariant-loop decreases-loop
-loop-holds c = doubled-none _ _ c.requires
+loop-holds c = doubled_none _ _ c.requires
 
 mul-w : tie.Need-overflow-mul-w invariant-loop decreases-loop
 mul-w c = search rules
@@ -42,7 +42,7 @@ loop-less c = search rules
 loop-again : tie.Need-loop-preserved invariant-loop decreases-loop
 loop-again c =
     let at = c.before.before in
-    subst (Filled _ _ _) (omega arith) (doubled-more _ _ at.before.requires at.loop.i (search rules) at.loop.invariant)
+    subst (Filled _ _ _) (omega arith) (doubled_more _ _ at.before.requires at.loop.i (search rules) at.loop.invariant)
 
 same_length : tie.Need-same-length invariant-loop decreases-loop
 same_length c = search rules

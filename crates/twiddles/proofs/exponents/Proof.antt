@@ -5,7 +5,7 @@ use Rattle.lists.proofs.Fill.{filled_at}
 use Rattle.twiddles.proofs.Reversal.{reversed-start}
 use Rattle.lists.proofs.Fill.{Filled, filled-more-by, filled-all}
 use Rattle.lists.specs.Table.{table}
-use Rattle.lists.proofs.Tables.{length-table, getD-table}
+use Rattle.lists.proofs.Tables.{length-table, get_or-table}
 use Rattle.algebra.specs.Halving.{reversed}
 use Rattle.twiddles.proofs.Reversal.{reversed_step, reversed-below}
 use native.Mathlib.Omega.{arith}
@@ -21,7 +21,7 @@ decreases-loop r₀ m₀ r m = 1024 - m
 
 -- the entry that is read is filled already
 past : (c : tie.In-loop invariant-loop decreases-loop) → get_or c.before.loop.r (c.before.loop.m / 2) 0 ≡ reversed 10 (c.before.loop.m / 2)
-past c = filled_at 0 _ c.before.loop.invariant.1 (omega arith) ∙ getD-table 1024 (reversed 10) _ 0 (omega arith)
+past c = filled_at 0 _ c.before.loop.invariant.1 (omega arith) ∙ get_or-table 1024 (reversed 10) _ 0 (omega arith)
 
 array-write-r : tie.Need-array-write-r invariant-loop decreases-loop
 array-write-r c = search rules

@@ -5,7 +5,7 @@ use lib.ListN.{length, get_or, take, drop}
 use Rattle.lists.specs.Table.{table}
 use Rattle.lists.proofs.Tables.{length-table}
 use Rattle.lists.proofs.Fill.{Filled, filled_none, filled-more-by, filled-all}
-use Rattle.lists.proofs.ByteLists.{part-getD}
+use Rattle.lists.proofs.ByteLists.{part-get_or}
 use borrow.Author.Rules.{rules}
 use Rattle.twiddles.proofs.first_factors.Statement.{statement}
 use Rattle.twiddles.proofs.first_factors.Tie as tie
@@ -50,7 +50,7 @@ returns : tie.Need-returns invariant-loop decreases-loop
 returns c =
     let start = c.before.before in
     let n = length start.args.w.now in
-    filled-all c.before.loop.invariant (search rules) ∙ sym (part-getD n n start.args.f.now start.requires)
+    filled-all c.before.loop.invariant (search rules) ∙ sym (part-get_or n n start.args.f.now start.requires)
 
 pub first-factors-spec : {M : Type 1} → statement M
 first-factors-spec =

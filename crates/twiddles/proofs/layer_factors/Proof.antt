@@ -5,7 +5,7 @@ use native.Mathlib.Omega.{arith}
 use lib.ListN.{length, take, drop}
 use lib.Seq.{length-take-le}
 use Rattle.twiddles.proofs.Factors.{shifted}
-use Rattle.twiddles.proofs.Repeats.{small, row-of-blocks}
+use Rattle.twiddles.proofs.Repeats.{small, row_of_blocks}
 use borrow.Author.Rules.{rules}
 use Rattle.twiddles.proofs.layer_factors.Statement.{statement}
 use Rattle.twiddles.proofs.layer_factors.Tie as tie
@@ -43,7 +43,7 @@ returns c =
     let start = c.before.before.before.before.before.before.before.before.before.before in
     let first = c.before.before.before.before.before.before.first-factors.ensures in
     c.before.before.repeat.ensures
-    ∙ row-of-blocks start.args.f.now _ _ start.args.k _ (first-size start) start.requires.2 start.requires.1 first
+    ∙ row_of_blocks start.args.f.now _ _ start.args.k _ (first-size start) start.requires.2 start.requires.1 first
 
 pub layer-factors-spec : {M : Type 1} → statement M
 layer-factors-spec =

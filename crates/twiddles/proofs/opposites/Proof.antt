@@ -4,7 +4,7 @@ use lib.ListN.{get_or}
 use mathlib.Core.List.{List}
 use Rattle.lists.proofs.Fill.{Filled, filled_none, filled-more-by, filled-all}
 use Rattle.lists.specs.Table.{table}
-use Rattle.lists.proofs.Tables.{length-table, getD-table}
+use Rattle.lists.proofs.Tables.{length-table, get_or-table}
 use Rattle.algebra.specs.Halving.{reversed}
 use Rattle.twiddles.proofs.Reversal.{reversed-below}
 use native.Mathlib.Omega.{arith}
@@ -19,7 +19,7 @@ abbrev decreases-loop : tie.decreases-loop
 decreases-loop e r₀ m₀ r m = 1024 - m
 
 entry : (c : tie.In-loop invariant-loop decreases-loop) → get_or c.before.before.args.t1 c.before.loop.m 0 ≡ reversed 10 c.before.loop.m
-entry c = ap (λ (l : List ℕ). get_or l c.before.loop.m 0) c.before.before.requires ∙ getD-table 1024 (reversed 10) c.before.loop.m 0 (search rules)
+entry c = ap (λ (l : List ℕ). get_or l c.before.loop.m 0) c.before.before.requires ∙ get_or-table 1024 (reversed 10) c.before.loop.m 0 (search rules)
 
 loop-holds : tie.Need-loop-init invariant-loop decreases-loop
 loop-holds c = filled_none _ _ (length-table 1024 _) (search rules)

@@ -5,7 +5,7 @@ use lib.ListN.{length}
 use Rattle.lists.proofs.Fill.{Filled}
 use Rattle.lists.proofs.Parts.{length_part}
 use Rattle.twiddles.proofs.Factors.{shifted}
-use Rattle.twiddles.proofs.Repeats.{row, row-none, row_more, row-all, double-fits}
+use Rattle.twiddles.proofs.Repeats.{row, row-none, row_more, row_all, double-fits}
 use borrow.Author.Rules.{rules}
 use Rattle.twiddles.proofs.repeat.Statement.{statement}
 use Rattle.twiddles.proofs.repeat.Tie as tie
@@ -64,7 +64,7 @@ same_length : tie.Need-same-length invariant-loop decreases-loop
 same_length c = c.before.loop.invariant.2.size ∙ sym c.before.before.before.requires.0
 
 returns : tie.Need-returns invariant-loop decreases-loop
-returns c = row-all c.before.loop.d (search rules) c.before.loop.invariant.1 c.before.loop.invariant.2
+returns c = row_all c.before.loop.d (search rules) c.before.loop.invariant.1 c.before.loop.invariant.2
 
 pub repeat-spec : {M : Type 1} → statement M
 repeat-spec =

@@ -3,7 +3,7 @@ use Prim.Native.Nat.{◌-◌}
 use Rattle.lists.proofs.Fill.{Filled, filled_none, filled_more, filled-all}
 use Rattle.algebra.specs.Numbers.{scale}
 use Rattle.algebra.proofs.Elements as El
-use Rattle.modq.specs.Montgomery.{fromMontgomery}
+use Rattle.modq.specs.Montgomery.{from_montgomery}
 use Rattle.twiddles.specs.Powers.{q, degree}
 use Rattle.modq.proofs.Prime.{q-positive}
 use borrow.Author.Rules.{rules}
@@ -11,7 +11,7 @@ use Rattle.twiddles.proofs.scaled.Statement.{statement}
 use Rattle.twiddles.proofs.scaled.Tie as tie
 
 abbrev invariant-loop : tie.invariant-loop
-invariant-loop w a r₀ i₀ r i = Filled 1024 (scale q degree (fromMontgomery w) a) r i
+invariant-loop w a r₀ i₀ r i = Filled 1024 (scale q degree (from_montgomery w) a) r i
 
 abbrev decreases-loop : tie.decreases-loop
 decreases-loop w a r₀ i₀ r i = 1024 - i

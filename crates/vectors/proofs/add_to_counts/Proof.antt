@@ -30,7 +30,7 @@ enum-told-3 c = search rules
 returns : tie.Need-returns
 returns c =
     let args = c.before.before.before.args in
-    known args.agreed args.differed args.at c.before.enum_told.given.1 (ap (λ (n : ℕ). Counts n args.differed) c.one_more.ensures)
+    known args.agreed args.differed args.at c.before.enum_told.given.1 (ap (λ (n : ℕ). Counts n args.differed) c.one_more_lem.ensures)
 
 returns-2 : tie.Need-returns-2
 returns-2 c =

@@ -2,7 +2,7 @@ use mathlib.Core.Path.{ap, ◌∙◌}
 use Prim.Native.Nat.{ℕ}
 use lib.Dec.{leb}
 use lib.ListN.{length}
-use Rattle.vectors.specs.Fields.{endFrom, hasField}
+use Rattle.vectors.specs.Fields.{end_from, has_field}
 use borrow.Author.Rules.{rules}
 use Rattle.vectors.proofs.has_field.Statement.{statement}
 use Rattle.vectors.proofs.has_field.Tie as tie
@@ -14,10 +14,10 @@ end-from-requires : tie.Need-end-from-requires
 end-from-requires c κs = search rules
 
 returns : tie.Need-returns
-unfolding hasField
+unfolding has_field
 returns c =
     let text = c.before.before.before.args.text.now in
-    ap (λ (n : ℕ). leb n (length text)) (c.end-from.ensures ∙ ap (λ (at : ℕ). endFrom at text) c.before.start.ensures.0)
+    ap (λ (n : ℕ). leb n (length text)) (c.end-from.ensures ∙ ap (λ (at : ℕ). end_from at text) c.before.start.ensures.0)
 
 pub has-field-spec : {M : Type 1} → statement M
 has-field-spec = tie.close (tie.spec start-requires end-from-requires returns)

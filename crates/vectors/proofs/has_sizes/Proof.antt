@@ -3,14 +3,14 @@ use Prim.Native.Nat.{◌-◌, ◌≤◌}
 use native.Mathlib.Omega.{arith}
 use lib.ListN.{length, drop}
 use borrow.Author.Tests.{not-true, not-false}
-use Rattle.vectors.specs.Fields.{sizedFrom, sized?}
-use Rattle.vectors.proofs.Texts.{sized-more, sized-cut, sized-other, sized-all}
+use Rattle.vectors.specs.Fields.{sized_from, is_sized}
+use Rattle.vectors.proofs.Texts.{sized_more, sized_cut, sized_other, sized_all}
 use borrow.Author.Rules.{rules}
 use Rattle.vectors.proofs.has_sizes.Statement.{statement}
 use Rattle.vectors.proofs.has_sizes.Tie as tie
 
 abbrev invariant-loop : tie.invariant-loop
-invariant-loop text sizes k₀ k-end k = (k ≤ length sizes) × (sizedFrom k (drop k sizes) text ≡ sized? sizes text)
+invariant-loop text sizes k₀ k-end k = (k ≤ length sizes) × (sized_from k (drop k sizes) text ≡ is_sized sizes text)
 
 abbrev decreases-loop : tie.decreases-loop
 decreases-loop text sizes k₀ k-end k = length sizes - k
@@ -24,7 +24,7 @@ has-field-requires c κs = search rules
 returns : tie.Need-returns invariant-loop decreases-loop
 returns c =
     let at-loop = c.before.before.before in
-    sized-cut _ _ _ (omega arith) (sym c.before.has-field.ensures ∙ not-true _ c.if1.true) ∙ at-loop.loop.invariant.1
+    sized_cut _ _ _ (omega arith) (sym c.before.has-field.ensures ∙ not-true _ c.if1.true) ∙ at-loop.loop.invariant.1
 
 field-requires : tie.Need-field-requires invariant-loop decreases-loop
 field-requires c κs = search rules
@@ -40,7 +40,7 @@ returns-2 c =
     let got = c.before.before in
     let test = got.before.before in
     let whole = sym test.has-field.ensures ∙ not-false _ got.before.if1.false in
-    sized-other _ _ _ (omega arith) whole (λ e. c.if2.true (ap length got.field.ensures ∙ e)) ∙ test.before.before.loop.invariant.1
+    sized_other _ _ _ (omega arith) whole (λ e. c.if2.true (ap length got.field.ensures ∙ e)) ∙ test.before.before.loop.invariant.1
 
 add-k : tie.Need-overflow-add-k invariant-loop decreases-loop
 add-k c = search rules
@@ -54,10 +54,10 @@ loop-again c =
     let test = got.before.before in
     let whole = sym test.has-field.ensures ∙ not-false _ got.before.if1.false in
     let size = sym (ap length got.field.ensures) ∙ c.if2.false in
-    (omega arith, sym (sized-more _ _ _ (omega arith) whole size) ∙ test.before.before.loop.invariant.1)
+    (omega arith, sym (sized_more _ _ _ (omega arith) whole size) ∙ test.before.before.loop.invariant.1)
 
 returns-3 : tie.Need-returns-3 invariant-loop decreases-loop
-returns-3 c = sized-all _ _ _ c.loop-test.false ∙ c.before.loop.invariant.1
+returns-3 c = sized_all _ _ _ c.loop-test.false ∙ c.before.loop.invariant.1
 
 pub has-sizes-spec : {M : Type 1} → statement M
 has-sizes-spec =

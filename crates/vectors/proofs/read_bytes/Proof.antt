@@ -4,7 +4,7 @@ use native.Mathlib.Omega.{arith}
 use lib.ListN.{take}
 use lib.Seq.{length-take-le}
 use Rattle.vectors.specs.declared.Contents.{Contents}
-use Rattle.vectors.specs.Answers.{bytesRead}
+use Rattle.vectors.specs.Answers.{bytes_read}
 use Rattle.vectors.proofs.Texts.{take-cut}
 use borrow.Author.Rules.{rules}
 use Rattle.vectors.proofs.read_bytes.Statement.{statement}
@@ -37,7 +37,7 @@ returns c =
     let buffer = args.buffer.now in
     ap (λ (n : ℕ). take n buffer) c.before.lesser.ensures
     ∙ take-cut _ buffer
-    ∙ sym (ap (λ (r : Contents). bytesRead r buffer) c.before.before.before.read.given.1)
+    ∙ sym (ap (λ (r : Contents). bytes_read r buffer) c.before.before.before.read.given.1)
 
 returns-2 : tie.Need-returns-2
 returns-2 c = search rules

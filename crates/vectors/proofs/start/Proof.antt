@@ -2,7 +2,7 @@ use mathlib.Core.Path.{◌≡◌, refl, ap, ◌∙◌}
 use Prim.Native.Nat.{ℕ, ◌-◌, ◌≤◌, min}
 use native.Mathlib.Omega.{arith}
 use lib.ListN.{length}
-use Rattle.vectors.specs.Fields.{endFrom, start}
+use Rattle.vectors.specs.Fields.{end_from, start}
 use Rattle.vectors.proofs.Texts.{start-within, start-next}
 use borrow.Author.Rules.{rules}
 use Rattle.vectors.proofs.start.Statement.{statement}
@@ -36,7 +36,7 @@ loop-again c =
     let text = at-loop.before.before.args.text.now in (
       search rules,
       c.lesser.ensures
-          ∙ ap (λ (n : ℕ). min n (length text)) (c.before.end-from.ensures ∙ ap (λ (at : ℕ). endFrom at text) at-loop.loop.invariant.1)
+          ∙ ap (λ (n : ℕ). min n (length text)) (c.before.end-from.ensures ∙ ap (λ (at : ℕ). end_from at text) at-loop.loop.invariant.1)
           ∙ start-next at-loop.loop.k text,
     )
 

@@ -1,7 +1,7 @@
 use mathlib.Core.Path.{◌≡◌}
 use native.Mathlib.Omega.{arith}
 use lib.ListN.{length}
-use Rattle.location_text.specs.Words.{textLength}
+use Rattle.location_text.specs.Words.{text_length}
 use borrow.Author.Rules.{rules}
 use Rattle.worked_examples.proofs.print_location.Statement.{statement}
 use Rattle.worked_examples.proofs.print_location.Tie as tie
@@ -24,7 +24,7 @@ part-print-text-start c = search rules
 part-print-text-end : tie.Need-slice-bounds-print-text-end
 part-print-text-end c =
     let words = c.before.before.before.before.before.words in
-    let size : length words.result.bytes ≡ textLength = search rules in
+    let size : length words.result.bytes ≡ text_length = search rules in
     omega (arith, size, words.ensures.1.1)
 
 print-text-requires-2 : tie.Need-print-text-requires-2

@@ -1,11 +1,11 @@
 // Hexadecimal text as ASCII bytes: lowercase is written, both cases are read. Every function takes any bytes and buffers of any length.
 ghost use Rattle.std.specs.Prelude.{◌≡◌, ◌*◌, ◌/◌, ◌%◌, ◌≤◌, min, length, take};
-ghost use Rattle.lists.specs.First.{firstFailing};
-ghost use Rattle.hex.specs.Hex.{digitOf, value_of, isDigit, text_of, bytes_of, decoded, written};
+ghost use Rattle.lists.specs.First.{first_failing};
+ghost use Rattle.hexadecimal.specs.Hex.{digit_of, value_of, is_digit, text_of, bytes_of, decoded, written};
 
 // The digit of n modulo 16.
 pub fn digit(n: u8) -> u8
-    ensures { result ≡ digitOf (n % 16) }
+    ensures { result ≡ digit_of (n % 16) }
 {
     let low = n % 16;
     if low < 10 { b'0' + low } else { 87 + low }
@@ -25,7 +25,7 @@ pub fn value(c: u8) -> u8
 
 // How many digits the text starts with.
 fn count_digits(text: &[u8]) -> usize
-    ensures { result ≡ firstFailing isDigit text.now }
+    ensures { result ≡ first_failing is_digit text.now }
 {
     let mut i = 0;
     while i < text.len() {
@@ -52,7 +52,7 @@ fn put_text(bytes: &[u8], out: &mut [u8])
 
 // Fills a buffer that the digits at the front of the text fill.
 fn put_bytes(text: &[u8], out: &mut [u8])
-    requires { 2 * length out.old ≤ firstFailing isDigit text.now }
+    requires { 2 * length out.old ≤ first_failing is_digit text.now }
     ensures { out.new ≡ take (length out.old) (bytes_of text.now) }
 {
     let mut i = 0;

@@ -6,10 +6,10 @@ use lib.ListN.{length, get_or, take}
 use Rattle.lists.proofs.Fill.{Filled, filled_none, filled_more, filled-all}
 use lib.Seq.{length-take-le, get_or-take}
 use Rattle.lists.proofs.Scan.{first-within}
-use Rattle.hex.proofs.Text.{length-bytes, byte_at, value-lt}
-use Rattle.hex.specs.Hex.{isDigit, bytes_of, value_of}
-use Rattle.hex.proofs.put_bytes.Statement.{statement}
-use Rattle.hex.proofs.put_bytes.Tie as tie
+use Rattle.hexadecimal.proofs.Text.{length-bytes, byte_at, value-lt}
+use Rattle.hexadecimal.specs.Hex.{is_digit, bytes_of, value_of}
+use Rattle.hexadecimal.proofs.put_bytes.Statement.{statement}
+use Rattle.hexadecimal.proofs.put_bytes.Tie as tie
 
 abbrev invariant-loop : tie.invariant-loop
 invariant-loop text out₀ i₀ out i = Filled (length out₀) (take (length out₀) (bytes_of text)) out i
@@ -21,14 +21,14 @@ loop-holds : tie.Need-loop-init invariant-loop decreases-loop
 loop-holds c =
     let text = c.before.before.args.text.now in
     let out = c.before.before.args.out.now in
-    let h : length out ≤ length (bytes_of text) = omega (arith, length-bytes text, first-within isDigit text) in
+    let h : length out ≤ length (bytes_of text) = omega (arith, length-bytes text, first-within is_digit text) in
     filled_none (take (length out) (bytes_of text)) out (length-take-le (length out) (bytes_of text) h) refl
 
 mul-value : tie.Need-overflow-mul-value invariant-loop decreases-loop
 mul-value c = search rules
 
 shared-slice-read-value : tie.Need-shared-slice-read-value invariant-loop decreases-loop
-shared-slice-read-value c = omega (arith, first-within isDigit c.before.before.before.before.before.args.text.now)
+shared-slice-read-value c = omega (arith, first-within is_digit c.before.before.before.before.before.args.text.now)
 
 value-requires : tie.Need-value-requires invariant-loop decreases-loop
 value-requires c κs = search rules
@@ -52,7 +52,7 @@ add-value : tie.Need-overflow-add-value invariant-loop decreases-loop
 add-value c = search rules
 
 shared-slice-read-value-2 : tie.Need-shared-slice-read-value-2 invariant-loop decreases-loop
-shared-slice-read-value-2 c = omega (arith, first-within isDigit c.before.before.before.before.before.before.before.args.text.now)
+shared-slice-read-value-2 c = omega (arith, first-within is_digit c.before.before.before.before.before.before.before.args.text.now)
 
 value-requires-2 : tie.Need-value-requires-2 invariant-loop decreases-loop
 value-requires-2 c κs = search rules
@@ -76,7 +76,7 @@ loop-again c =
     let text = at-loop.before.before.before.args.text.now in
     let out = at-loop.before.before.before.args.out.now in
     let h : i < length out = omega arith in
-    let g : 2 * i + 1 < length text = omega (arith, first-within isDigit text) in
+    let g : 2 * i + 1 < length text = omega (arith, first-within is_digit text) in
     let v : 16 * c.before.before.value.result + c.value2.result ≡ get_or (bytes_of text) i 0 =
     rw (c.before.before.value.ensures, c.value2.ensures) (sym (byte_at text i g)) in
     filled_more 0 at-loop.loop.invariant h (v ∙ sym (get_or-take (length out) (bytes_of text) i 0 h))

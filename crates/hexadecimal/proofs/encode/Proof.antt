@@ -4,10 +4,10 @@ use native.Mathlib.Omega.{arith}
 use borrow.Author.Rules.{rules}
 use lib.ListN.{length, take}
 use lib.Seq.{length-take-le}
-use Rattle.hex.specs.Hex.{text_of}
-use Rattle.hex.proofs.Text.{length-text, written-front}
-use Rattle.hex.proofs.encode.Statement.{statement}
-use Rattle.hex.proofs.encode.Tie as tie
+use Rattle.hexadecimal.specs.Hex.{text_of}
+use Rattle.hexadecimal.proofs.Text.{length_text, written-front}
+use Rattle.hexadecimal.proofs.encode.Statement.{statement}
+use Rattle.hexadecimal.proofs.encode.Tie as tie
 
 mul-lesser : tie.Need-overflow-mul-lesser
 mul-lesser c = search rules
@@ -37,7 +37,7 @@ returns c =
     let bytes = called.before.before.before.args.bytes.now in
     let out = called.before.before.before.args.out.now in
     written-front (text_of bytes) out
-    (called.lesser.ensures ∙ ap (λ (k : ℕ). min k (length out)) (sym (length-text bytes)))
+    (called.lesser.ensures ∙ ap (λ (k : ℕ). min k (length out)) (sym (length_text bytes)))
     (c.before.before.put-text.ensures ∙ ap (λ (k : ℕ). take k (text_of bytes)) (lent called))
 
 pub encode-spec : {M : Type 1} → statement M

@@ -6,10 +6,10 @@ use lib.ListN.{length, get_or, take}
 use Rattle.lists.proofs.Fill.{Filled, filled_none, filled_more, filled-all}
 use mathlib.Core.Logic.{⊎_elim}
 use lib.Seq.{length-take-le, get_or-take}
-use Rattle.hex.proofs.Text.{length-text, text-high, text-low}
-use Rattle.hex.specs.Hex.{text_of, digitOf}
-use Rattle.hex.proofs.put_text.Statement.{statement}
-use Rattle.hex.proofs.put_text.Tie as tie
+use Rattle.hexadecimal.proofs.Text.{length_text, text_high, text_low}
+use Rattle.hexadecimal.specs.Hex.{text_of, digit_of}
+use Rattle.hexadecimal.proofs.put_text.Statement.{statement}
+use Rattle.hexadecimal.proofs.put_text.Tie as tie
 
 abbrev invariant-loop : tie.invariant-loop
 invariant-loop bytes out₀ i₀ out i = Filled (length out₀) (take (length out₀) (text_of bytes)) out i
@@ -22,7 +22,7 @@ loop-holds c =
     let bytes = c.before.before.args.bytes.now in
     let out = c.before.before.args.out.now in
     filled_none (take (length out) (text_of bytes)) out
-    (length-take-le (length out) (text_of bytes) (rw (length-text bytes) c.before.before.requires)) refl
+    (length-take-le (length out) (text_of bytes) (rw (length_text bytes) c.before.before.requires)) refl
 
 shared-slice-read-b : tie.Need-shared-slice-read-b invariant-loop decreases-loop
 shared-slice-read-b c = search rules
@@ -56,10 +56,10 @@ loop-again c =
     (λ w.
     let e : 2 * (i / 2) ≡ i = omega (arith, w.0.taken) in
     let n : get_or bytes (i / 2) 0 / 16 % 16 ≡ get_or bytes (i / 2) 0 / 16 = omega arith in
-    w.2 ∙ w.1.ensures ∙ ap digitOf n ∙ sym (text-high bytes (i / 2) g) ∙ ap (λ (k : ℕ). get_or (text_of bytes) k 0) e)
+    w.2 ∙ w.1.ensures ∙ ap digit_of n ∙ sym (text_high bytes (i / 2) g) ∙ ap (λ (k : ℕ). get_or (text_of bytes) k 0) e)
     (λ w.
     let e : 2 * (i / 2) + 1 ≡ i = omega (arith, w.0.left) in
-    w.2 ∙ w.1.ensures ∙ sym (text-low bytes (i / 2) g) ∙ ap (λ (k : ℕ). get_or (text_of bytes) k 0) e)
+    w.2 ∙ w.1.ensures ∙ sym (text_low bytes (i / 2) g) ∙ ap (λ (k : ℕ). get_or (text_of bytes) k 0) e)
     c.if1.branch in
     filled_more 0 at-loop.loop.invariant h (v ∙ sym (get_or-take (length out) (text_of bytes) i 0 h))
 

@@ -4,11 +4,11 @@ use native.Mathlib.Omega.{arith}
 use borrow.Author.Rules.{rules}
 use lib.ListN.{length, take}
 use lib.Seq.{length-take-le, take-take}
-use Rattle.lists.specs.First.{firstFailing}
-use Rattle.hex.specs.Hex.{isDigit, bytes_of, decoded}
-use Rattle.hex.proofs.Text.{length-decoded, written-front}
-use Rattle.hex.proofs.decode.Statement.{statement}
-use Rattle.hex.proofs.decode.Tie as tie
+use Rattle.lists.specs.First.{first_failing}
+use Rattle.hexadecimal.specs.Hex.{is_digit, bytes_of, decoded}
+use Rattle.hexadecimal.proofs.Text.{length-decoded, written-front}
+use Rattle.hexadecimal.proofs.decode.Statement.{statement}
+use Rattle.hexadecimal.proofs.decode.Tie as tie
 
 count-digits-requires : tie.Need-count-digits-requires
 count-digits-requires c κs = search rules
@@ -41,7 +41,7 @@ returns c =
     ap (λ (k : ℕ). k / 2) called.before.count-digits.ensures ∙ sym (length-decoded text) in
     let n : called.lesser.result ≡ min (length (decoded text)) (length out) =
     called.lesser.ensures ∙ ap (λ (k : ℕ). min k (length out)) pairs in
-    let within : called.lesser.result ≤ firstFailing isDigit text / 2 = omega (arith, length-decoded text) in (
+    let within : called.lesser.result ≤ first_failing is_digit text / 2 = omega (arith, length-decoded text) in (
       n,
       written-front (decoded text) out n
           (c.before.before.put-bytes.ensures ∙ ap (λ (k : ℕ). take k (bytes_of text)) (lent called) ∙ sym (take-take _ _ (bytes_of text) within)),

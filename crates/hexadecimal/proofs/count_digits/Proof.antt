@@ -4,19 +4,19 @@ use Prim.Native.Nat.{◌-◌}
 use borrow.Author.Rules.{rules}
 use borrow.Author.Tests.{le-ltb, lt-ltb}
 use lib.ListN.{length, get_or}
-use Rattle.lists.proofs.Scan.{Passed, passed_none, passed-more, passed-stop, passed-all}
-use Rattle.hex.specs.Hex.{isDigit}
-use Rattle.hex.proofs.count_digits.Statement.{statement}
-use Rattle.hex.proofs.count_digits.Tie as tie
+use Rattle.lists.proofs.Scan.{Passed, passed_none, passed_more, passed-stop, passed_all}
+use Rattle.hexadecimal.specs.Hex.{is_digit}
+use Rattle.hexadecimal.proofs.count_digits.Statement.{statement}
+use Rattle.hexadecimal.proofs.count_digits.Tie as tie
 
 abbrev invariant-loop : tie.invariant-loop
-invariant-loop text i₀ i = Passed isDigit text i
+invariant-loop text i₀ i = Passed is_digit text i
 
 abbrev decreases-loop : tie.decreases-loop
 decreases-loop text i₀ i = length text - i
 
 loop-holds : tie.Need-loop-init invariant-loop decreases-loop
-loop-holds c = passed_none isDigit c.before.args.text.now
+loop-holds c = passed_none is_digit c.before.args.text.now
 
 shared-slice-read-value : tie.Need-shared-slice-read-value invariant-loop decreases-loop
 shared-slice-read-value c = search rules
@@ -27,7 +27,7 @@ value-requires c κs = search rules
 returns : tie.Need-returns invariant-loop decreases-loop
 returns c =
     let at-loop = c.before.before.before.before in
-    let e : isDigit (get_or at-loop.before.before.args.text.now at-loop.loop.i 0) ≡ false =
+    let e : is_digit (get_or at-loop.before.before.args.text.now at-loop.loop.i 0) ≡ false =
     le-ltb _ 16 (rw c.before.value.ensures at c.if1.true) in
     passed-stop at-loop.loop.invariant c.before.before.before.loop-test.true e
 
@@ -40,12 +40,12 @@ loop-less c = search rules
 loop-again : tie.Need-loop-preserved invariant-loop decreases-loop
 loop-again c =
     let at-loop = c.before.before.before.before in
-    let e : isDigit (get_or at-loop.before.before.args.text.now at-loop.loop.i 0) ≡ true =
+    let e : is_digit (get_or at-loop.before.before.args.text.now at-loop.loop.i 0) ≡ true =
     lt-ltb _ 16 (rw c.before.value.ensures at c.if1.false) in
-    passed-more at-loop.loop.invariant c.before.before.before.loop-test.true e
+    passed_more at-loop.loop.invariant c.before.before.before.loop-test.true e
 
 returns-2 : tie.Need-returns-2 invariant-loop decreases-loop
-returns-2 c = passed-all c.before.loop.invariant c.loop-test.false
+returns-2 c = passed_all c.before.loop.invariant c.loop-test.false
 
 pub count-digits-spec : {M : Type 1} → statement M
 count-digits-spec =
