@@ -13,7 +13,7 @@ use octets::BLOCK_LENGTH;
 const LINE_LENGTH: usize = 3 + 2 * BLOCK_LENGTH;
 
 // A text of at most 35 bytes: it stands at the front of `bytes`, with zeros behind it.
-#[derive(Drop)]
+#[derive(Clone, Copy)]
 pub struct Text {
     pub bytes: [u8; LINE_LENGTH],
     pub length: usize,

@@ -8,7 +8,7 @@ ghost use Rattle.answers.specs.Locations.{in_key_part, in_key, in_encapsulation_
 // ---- answers
 
 // The part of a key that has a word of q or more, and the index of its first; an expanded secret key has the inverse of b.
-#[derive(Drop)]
+#[derive(Clone, Copy)]
 pub enum KeyPart {
     A(usize),
     B(usize),
@@ -16,7 +16,7 @@ pub enum KeyPart {
 }
 
 // The key that has it.
-#[derive(Drop)]
+#[derive(Clone, Copy)]
 pub enum KeyRecord {
     PublicKey(KeyPart),
     SeededPublicKey(KeyPart),
@@ -24,21 +24,21 @@ pub enum KeyRecord {
 }
 
 // The part of an encapsulation, bare or sealed with an entry, that has a word of q or more, and the index of its first.
-#[derive(Drop)]
+#[derive(Clone, Copy)]
 pub enum EncapsulationPart {
     C1(usize),
     C2(usize),
 }
 
 // The record that holds it.
-#[derive(Drop)]
+#[derive(Clone, Copy)]
 pub enum EncapsulationRecord {
     SealedEntry(EncapsulationPart),
     Encapsulation(EncapsulationPart),
 }
 
 // Why a call refuses: document 01's numbers 1 to 10, and document 02's 11 to 13.
-#[derive(Drop)]
+#[derive(Clone, Copy)]
 pub enum Refusal {
     WrongLength,
     WrongMark,
@@ -56,7 +56,7 @@ pub enum Refusal {
 }
 
 // What a call answers.
-#[derive(Drop)]
+#[derive(Clone, Copy)]
 pub enum Answer {
     Done,
     Refused(Refusal),
@@ -97,7 +97,7 @@ pub fn number(a: Answer) -> u32
 // ---- the location
 
 // Where the first word of q or more stands: the codes of the record's kind and of the part, and its index. Zeros where the answer names no word.
-#[derive(Drop)]
+#[derive(Clone, Copy)]
 pub struct Location {
     pub kind: u32,
     pub part: u32,

@@ -14,7 +14,7 @@ use encoding::HEADER_LENGTH;
 use keys::TRIPLE_NOISE_LENGTH;
 
 // What is answered, and how many entries were shown, 0 beside a refusal.
-#[derive(Drop)]
+#[derive(Clone, Copy)]
 pub struct OpenedBatch {
     pub answer: Answer,
     pub count: u32,

@@ -7,7 +7,7 @@ use answers::Answer;
 use case_outputs::FILLER;
 
 // A call with one output.
-#[derive(Drop)]
+#[derive(Clone, Copy)]
 pub enum Call {
     Encapsulate,
     Decapsulate,

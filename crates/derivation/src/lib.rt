@@ -19,7 +19,7 @@ const KEY_MATERIAL: usize = 3 * BLOCK_LENGTH;
 // ---- keys
 
 // K0, K1 and K2.
-#[derive(Drop)]
+#[derive(Clone, Copy)]
 struct Keys {
     k0: [u8; BLOCK_LENGTH],
     k1: [u8; BLOCK_LENGTH],
@@ -124,7 +124,7 @@ pub fn protect(
 }
 
 // Whether a tag is right, and K0, which shows the entry.
-#[derive(Drop)]
+#[derive(Clone, Copy)]
 pub struct Verified {
     pub genuine: bool,
     pub k0: [u8; BLOCK_LENGTH],

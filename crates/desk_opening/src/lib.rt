@@ -19,7 +19,7 @@ const DUMMY: usize = SEALED + SEALED_ENTRY_LENGTH;
 pub const INPUT_LENGTH: usize = DUMMY + TRIPLE_NOISE_LENGTH;
 
 // What is answered, and what opening writes into zeros, which stay beside a refusal.
-#[derive(Drop)]
+#[derive(Clone, Copy)]
 pub struct Opened {
     pub answer: Answer,
     pub entry: [u8; BLOCK_LENGTH],

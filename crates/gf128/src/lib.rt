@@ -8,7 +8,7 @@ ghost use Rattle.gf128.specs.Bytes.{number, bytes, sum, product, equal, folded, 
 ghost use Rattle.gf128.specs.Words.{value, times_x, eight_at};
 
 // A polynomial of degree below 128: the coefficients of x^0 to x^63 are the bits of lo, the others those of hi.
-#[derive(Drop)]
+#[derive(Clone, Copy)]
 struct Element {
     lo: u64,
     hi: u64,

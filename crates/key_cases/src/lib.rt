@@ -18,7 +18,7 @@ pub fn check_agrees(text: &[u8]) -> bool
 // ---- keygen
 
 // What a is read from, the first input: a stream, or the seed of one.
-#[derive(Drop)]
+#[derive(Clone, Copy)]
 pub enum Source {
     Stream,
     Seed,

@@ -21,7 +21,7 @@ use records::{
 // ---- a key of one version
 
 // What its checks answer, and the spectrum of the inverse of its b.
-#[derive(Drop)]
+#[derive(Clone, Copy)]
 struct Checked {
     answer: Answer,
     inverse: Spectrum,

@@ -13,7 +13,7 @@ use scheme::Triple;
 // ---- new keys
 
 // What key generation answers, and the a, b and s that it writes under Done.
-#[derive(Drop)]
+#[derive(Clone, Copy)]
 pub struct NewKey {
     pub answer: Answer,
     pub a: Element,

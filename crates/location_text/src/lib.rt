@@ -10,7 +10,7 @@ use answers::Location;
 const TEXT_LENGTH: usize = 53;
 
 // A text of at most TEXT_LENGTH bytes: it stands at the front of `bytes`, with zeros behind it.
-#[derive(Drop)]
+#[derive(Clone, Copy)]
 pub struct Text {
     pub bytes: [u8; TEXT_LENGTH],
     pub length: usize,

@@ -85,7 +85,7 @@ fn public_length(input: &[u8]) -> usize
 }
 
 // What is printed: so many bytes of each key to standard output, and a text to standard error.
-#[derive(Drop)]
+#[derive(Clone, Copy)]
 pub struct Printed {
     pub public: usize,
     pub secret: usize,

@@ -9,7 +9,7 @@ ghost use Rattle.margin_calls.specs.Promises.{OpenMarginExact};
 use answers::Answer;
 
 // What is answered, and the margin, 0 beside a refusal.
-#[derive(Drop)]
+#[derive(Clone, Copy)]
 pub struct OpenedWithMargin {
     pub answer: Answer,
     pub margin: u32,

@@ -3,7 +3,7 @@ ghost use Rattle.std.specs.Prelude.{◌≡◌, ◌+◌, ◌*◌, ◌≤◌, leng
 ghost use Rattle.monte_chain.specs.Monte.{output_of, least_size, greatest_size, output_size};
 ghost use Rattle.monte_chain.specs.Monte.{message_of, chain_of, turned, turns as Monte·turns};
 
-#[derive(Drop)]
+#[derive(Clone, Copy)]
 pub enum Function {
     Shake128,
     Shake256,
@@ -40,7 +40,7 @@ pub fn greatest_size(function: Function) -> usize
 }
 
 // What the next turn starts from: its message, and the number that its output's length is made of.
-#[derive(Drop)]
+#[derive(Clone, Copy)]
 pub struct Chain {
     pub message: [u8; 16],
     pub extra: usize,

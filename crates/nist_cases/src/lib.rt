@@ -10,7 +10,7 @@ use response_files::Number;
 
 // ---- one message
 
-#[derive(Drop)]
+#[derive(Clone, Copy)]
 pub enum Verdict {
     Agreed,
     Differed,
@@ -82,7 +82,7 @@ fn judge_message(function: Function, text: &[u8], bytes: usize, size: usize) -> 
 
 // ---- cases
 
-#[derive(Drop)]
+#[derive(Clone, Copy)]
 pub enum Kind {
     Length,
     Output,

@@ -113,7 +113,7 @@ fn write_entry(answer: Answer, k0: [u8; BLOCK_LENGTH], body: &[u8], out: &mut [u
 }
 
 // What is answered, and beside any answer the quotients w of step 3.
-#[derive(Drop)]
+#[derive(Clone, Copy)]
 pub struct OpenedSealed {
     pub answer: Answer,
     pub quotients: Quotients,

@@ -23,7 +23,7 @@ pub fn is_public_length(size: usize) -> bool
 // ---- the record
 
 // What mark, version and words are answered by, what the stream of a seed is, and a and b.
-#[derive(Drop)]
+#[derive(Clone, Copy)]
 struct Parts {
     record: Answer,
     stream: Answer,
@@ -94,7 +94,7 @@ fn read_parts(bytes: &[u8]) -> Parts
 // ---- the key
 
 // What the checks of a public key answer, and the spectra of a and b.
-#[derive(Drop)]
+#[derive(Clone, Copy)]
 pub struct PublicKey {
     pub answer: Answer,
     pub a: Spectrum,

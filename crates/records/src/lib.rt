@@ -84,7 +84,7 @@ pub fn place_answer(place: usize, refusal: Refusal) -> Answer
 }
 
 // The place of the first word that is q or more in each of two elements, 1,024 where there is none.
-#[derive(Drop)]
+#[derive(Clone, Copy)]
 pub struct Places {
     pub first: usize,
     pub second: usize,
@@ -112,7 +112,7 @@ pub fn check_codes(bytes: &[u8]) -> Answer
 // ---- readers
 
 // Two elements, and where words are q or more.
-#[derive(Drop)]
+#[derive(Clone, Copy)]
 pub struct Pair {
     pub first: Element,
     pub second: Element,
@@ -138,7 +138,7 @@ pub fn read_pair(bytes: &[u8]) -> Pair
 }
 
 // .. and what mark and version are answered by.
-#[derive(Drop)]
+#[derive(Clone, Copy)]
 pub struct Elements {
     pub header: Answer,
     pub first: Element,

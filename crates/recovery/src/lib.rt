@@ -14,7 +14,7 @@ use secret_keys::SecretKey;
 // ---- an encapsulation
 
 // What is answered, and the triple that is written under Done.
-#[derive(Drop)]
+#[derive(Clone, Copy)]
 pub struct Decapsulated {
     pub answer: Answer,
     pub triple: Triple,
@@ -63,7 +63,7 @@ pub fn find_triple(
 // ---- the tag of a sealed entry or a batch
 
 // What is answered, and K0, which shows the entry under Done; beside any answer the quotients w of step 3.
-#[derive(Drop)]
+#[derive(Clone, Copy)]
 pub struct Recovered {
     pub answer: Answer,
     pub k0: [u8; BLOCK_LENGTH],

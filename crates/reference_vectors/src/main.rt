@@ -11,7 +11,7 @@ use key_cases::Source;
 use vectors::{Report, Verdict};
 
 // What the cases of a file are of.
-#[derive(Drop)]
+#[derive(Clone, Copy)]
 enum Kind {
     CheckSecretKey,
     Keygen(Source),

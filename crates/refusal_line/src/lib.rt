@@ -7,7 +7,7 @@ ghost use Rattle.refusal_line.specs.Line.{refusal_line};
 use answers::Answer;
 
 // A text of at most 21 bytes: it stands at the front of `bytes`, with zeros behind it.
-#[derive(Drop)]
+#[derive(Clone, Copy)]
 pub struct Text {
     pub bytes: [u8; 21],
     pub length: usize,

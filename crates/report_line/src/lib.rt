@@ -64,7 +64,7 @@ fn put_file(out: &mut [u8], at: usize, read: Contents, report: Report) -> usize
 // ---- the line
 
 // A text of at most 256 bytes: it stands at the front of `bytes`, with zeros behind it.
-#[derive(Drop)]
+#[derive(Clone, Copy)]
 pub struct Text {
     pub bytes: [u8; 256],
     pub length: usize,

@@ -114,7 +114,7 @@ pub fn line_number(text: &[u8], left: usize) -> usize
 
 // ---- fields
 
-#[derive(Drop)]
+#[derive(Clone, Copy)]
 pub enum Number {
     Value(usize),
     Missing,

@@ -66,7 +66,7 @@ pub fn centred(c: u16) -> i16
 }
 
 // What dividing an integer by 5 gives.
-#[derive(Drop)]
+#[derive(Clone, Copy)]
 pub struct Division {
     pub remainder: i16,
     pub quotient: i16,
@@ -113,7 +113,7 @@ pub fn residue(m: i16) -> u16
 }
 
 // The remainder as a coefficient, and the quotient, which is between - 5,939 and 5,939.
-#[derive(Drop)]
+#[derive(Clone, Copy)]
 struct CoefficientDivision {
     remainder: u16,
     quotient: i16,
@@ -136,7 +136,7 @@ fn divide_coefficient(c: u16) -> CoefficientDivision
 pub type Quotients = [i16; DEGREE];
 
 // What dividing every centred coefficient by 5 gives.
-#[derive(Drop)]
+#[derive(Clone, Copy)]
 pub struct ElementDivision {
     pub remainders: Element,
     pub quotients: Quotients,
@@ -218,7 +218,7 @@ pub fn product(a: Element, b: Element) -> Element
 }
 
 // Whether an element has an inverse, and the inverse; 1,024 zeros where it has none.
-#[derive(Drop)]
+#[derive(Clone, Copy)]
 pub struct Inversion {
     pub exists: bool,
     pub value: Element,

@@ -11,7 +11,7 @@ use ntt::{DEGREE, Element, FACTORS};
 use vectors::{Report, Verdict};
 
 // What the cases of a file are of.
-#[derive(Drop)]
+#[derive(Clone, Copy)]
 pub enum Kind {
     Products,
     Inverses,

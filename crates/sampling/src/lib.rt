@@ -86,7 +86,7 @@ pub fn ternary(bytes: &[u8]) -> Element
 
 // How many words of a stream were taken, and the polynomial whose first coefficients they are; the rest are zeros.
 // The stream was exhausted where the count is below 1,024.
-#[derive(Drop)]
+#[derive(Clone, Copy)]
 pub struct UniformSample {
     pub count: usize,
     pub value: Element,

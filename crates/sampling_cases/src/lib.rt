@@ -94,7 +94,7 @@ fn judge(text: &[u8]) -> Verdict
     )
 }
 
-#[derive(Drop)]
+#[derive(Clone, Copy)]
 pub struct Counts {
     pub agreed: u64,
     pub differed: u64,

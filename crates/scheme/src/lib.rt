@@ -15,14 +15,14 @@ use ring::Quotients;
 // ---- keys
 
 // The b of a new key, and whether it has an inverse.
-#[derive(Drop)]
+#[derive(Clone, Copy)]
 pub struct Generated {
     pub b: Element,
     pub invertible: bool,
 }
 
 // A public key prepared: the spectra of a and b, and whether b has an inverse.
-#[derive(Drop)]
+#[derive(Clone, Copy)]
 pub struct PreparedPublicKey {
     pub a: Spectrum,
     pub b: Spectrum,
@@ -30,7 +30,7 @@ pub struct PreparedPublicKey {
 }
 
 // The spectra of a secret key's a, b and s, and whether b = 5 (a × s + e) for a ternary e.
-#[derive(Drop)]
+#[derive(Clone, Copy)]
 pub struct CheckedKey {
     pub a: Spectrum,
     pub b: Spectrum,
@@ -101,14 +101,14 @@ pub fn check_key(
 
 // ---- encapsulation
 
-#[derive(Drop)]
+#[derive(Clone, Copy)]
 pub struct Triple {
     pub r: Element,
     pub e1: Element,
     pub e2: Element,
 }
 
-#[derive(Drop)]
+#[derive(Clone, Copy)]
 pub struct Encapsulation {
     pub c1: Element,
     pub c2: Element,
@@ -137,7 +137,7 @@ pub fn encapsulate(
 // ---- decapsulation, by the steps of document 01
 
 // Whether a triple was found, and the triple, zeros where none was; beside either the quotients w of step 3, m = E2 + 5 × w.
-#[derive(Drop)]
+#[derive(Clone, Copy)]
 pub struct Decapsulation {
     pub found: bool,
     pub triple: Triple,
@@ -145,7 +145,7 @@ pub struct Decapsulation {
 }
 
 // The sums of step 1, as spectra: so a product with either takes no transform.
-#[derive(Drop)]
+#[derive(Clone, Copy)]
 pub struct Sums {
     pub first: Spectrum,
     pub second: Spectrum,

@@ -55,7 +55,7 @@ fn sealed_of(input: &[u8], sealed: &mut [u8]) -> Answer
 }
 
 // What is printed: so many bytes of the sealed entry to standard output, and a text to standard error.
-#[derive(Drop)]
+#[derive(Clone, Copy)]
 pub struct Printed {
     pub sealed: usize,
     pub error: refusal_line::Text,

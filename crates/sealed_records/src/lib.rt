@@ -15,7 +15,7 @@ use octets::BLOCK_LENGTH;
 use records::{ENCAPSULATION_LENGTH, Places, SEALED_ENTRY_LENGTH, SEALED_ENTRY_MARK, TAG, THIRD};
 
 // What is read: c1, c2, and what the checks of the record answer.
-#[derive(Drop)]
+#[derive(Clone, Copy)]
 pub struct ReadEncapsulation {
     pub answer: Answer,
     pub c1: Element,

@@ -24,7 +24,7 @@ use scheme::Triple;
 // ---- encapsulate
 
 // What is answered, and what is written under Done.
-#[derive(Drop)]
+#[derive(Clone, Copy)]
 struct Encapsulated {
     answer: Answer,
     c1: Element,
@@ -103,7 +103,7 @@ pub fn encapsulate(key: &[u8], triple: &[u8], out: &mut [u8]) -> Answer
 // ---- what sealing an entry and sealing a batch share
 
 // An encapsulation by a triple from noise, with that triple, and what the key is answered by.
-#[derive(Drop)]
+#[derive(Clone, Copy)]
 pub struct Prepared {
     pub answer: Answer,
     pub c1: Element,

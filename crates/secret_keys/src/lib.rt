@@ -74,7 +74,7 @@ fn content_answer(words: Answer, codes: Answer, unit: Answer, matches: Answer) -
 }
 
 // What both versions hold: the spectra of a, b and s, and what is answered to their words, codes, and to b = 5 (a × s + e).
-#[derive(Drop)]
+#[derive(Clone, Copy)]
 struct Shared {
     words: Answer,
     codes: Answer,
@@ -114,7 +114,7 @@ fn read_shared(bytes: &[u8], forward: &[u16], backward: &[u16]) -> Shared
 // ---- the inverse of b, whose spectrum is lent
 
 // What its words, and b × it, are answered by, and its spectrum.
-#[derive(Drop)]
+#[derive(Clone, Copy)]
 struct Unit {
     words: Answer,
     answer: Answer,
@@ -160,7 +160,7 @@ fn read_unit(bytes: &[u8], b: Spectrum, forward: &[u16]) -> Unit
 }
 
 // What is answered to it: the key check needs no inverse, so in version 1 none is worked out.
-#[derive(Drop)]
+#[derive(Clone, Copy)]
 struct UnitAnswers {
     words: Answer,
     answer: Answer,
@@ -185,7 +185,7 @@ fn check_unit(bytes: &[u8], b: Spectrum, forward: &[u16]) -> UnitAnswers
 // ---- either version
 
 // What the checks of a secret key answer, and the spectra of a, b, s and of the inverse of b.
-#[derive(Drop)]
+#[derive(Clone, Copy)]
 pub struct SecretKey {
     pub answer: Answer,
     pub a: Spectrum,

@@ -12,7 +12,7 @@ use ntt::Element;
 use records::{SEED, SEEDED_B, SEEDED_KEY_LENGTH, SEEDED_KEY_MARK};
 
 // What mark and version are answered by, b, and the place of its first word that is q or more. The seed stays where it is lent.
-#[derive(Drop)]
+#[derive(Clone, Copy)]
 pub struct SeededKey {
     pub header: Answer,
     pub b: Element,

@@ -22,7 +22,7 @@ fn line_of(message: &[u8]) -> [u8; 65]
 }
 
 // What is printed: so many bytes of `line` to standard output, and so many of `error` to standard error.
-#[derive(Drop)]
+#[derive(Clone, Copy)]
 struct Printed {
     line: [u8; 65],
     shown: usize,

@@ -128,7 +128,7 @@ pub fn is_filled(buffer: &[u8], value: u8) -> bool
 // ---- cases
 
 // The verdict on a case.
-#[derive(Drop)]
+#[derive(Clone, Copy)]
 pub enum Verdict {
     Agreed,
     Differed,
@@ -151,7 +151,7 @@ pub fn judged(sound: bool, agrees: bool) -> Verdict
 }
 
 // What is said of the cases of a file: how many agreed and how many differed, or where one is that is not whole or not of its kind.
-#[derive(Drop)]
+#[derive(Clone, Copy)]
 pub enum Report {
     Counts(u64, u64),
     // The byte at which the first such case starts.
@@ -202,7 +202,7 @@ pub fn file_buffer() -> [u8; 2097152]
 }
 
 // What became of reading a file: so many bytes, or why none.
-#[derive(Drop)]
+#[derive(Clone, Copy)]
 pub enum Contents {
     Bytes(usize),
     TooLong,
