@@ -1,0 +1,4 @@
+use Rattle.modq.proofs.+reciprocal.Given as goal
+
+abbrev pub decreases-reciprocal : goal.decreases-reciprocal
+decreases-reciprocal l = l.x

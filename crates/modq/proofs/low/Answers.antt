@@ -1,0 +1,7 @@
+use native.Mathlib.Omega.{arith}
+use Rattle.modq.proofs.Products.{product-fits}
+use borrow.Author.Rules.{rules}
+use Rattle.modq.proofs.low.Goals as goal
+
+pub overflow_mul-result : goal.overflow_mul-result
+overflow_mul-result c = record { fits = omega (arith, product-fits {a = c.args.a} {b = c.args.b} (search rules) (search rules)) }
