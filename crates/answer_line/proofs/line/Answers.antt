@@ -1,0 +1,13 @@
+use Rattle.answers.specs.Answers.{number}
+use Rattle.answer_line.proofs.Lines.{done_line, refused_line, holds}
+use Rattle.answer_line.proofs.line.Goals as goal
+
+pub returns-in-Done : goal.returns-in-Done
+returns-in-Done c =
+    let args = c.args in
+    holds (done_line args.entry c.enum_told-1.given.1) c.entry_line.ensures
+
+pub returns : goal.returns
+returns c =
+    let args = c.args in
+    holds (refused_line args.entry c.enum_told-in_default-1.given.1 c.number.ensures) c.refusal_line.ensures

@@ -1,0 +1,13 @@
+use Rattle.desk_line.proofs.Lines.{line_by-answer, other_length_line}
+use Rattle.answer_line.proofs.Lines.{holds}
+use Rattle.desk_line.proofs.line.Goals as goal
+
+pub returns-then-input-ne-INPUT_LENGTH : goal.returns-then-input-ne-INPUT_LENGTH
+returns-then-input-ne-INPUT_LENGTH c =
+    let input = c.args.input.now in
+    holds (other_length_line input c.if-input-ne-INPUT_LENGTH.true) c.refusal_line.ensures
+
+pub returns : goal.returns
+returns c =
+    let opened = c in
+    holds (line_by-answer opened.args.input.now opened.open_input-opened.ensures.answer_value opened.open_input-opened.ensures.result_value) c.line.ensures

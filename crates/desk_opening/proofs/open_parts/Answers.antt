@@ -1,0 +1,16 @@
+use Rattle.desk_opening.proofs.Answers.{opens_version_1, opens_no_other}
+use Rattle.desk_opening.proofs.open_parts.Goals as goal
+
+pub returns-in-Done : goal.returns-in-Done
+returns-in-Done c =
+    let told = c in
+    let header = told in
+    let args = header.args in
+    let (answer, (entry, _)) = (goal.at.returns-in-Done c).After-open-answer.«open».ensures in
+    opens_version_1 args.key.now args.sealed.now args.dummy.now header.check_header-header.ensures told.enum_told-1.given.1 answer entry
+
+pub returns : goal.returns
+returns c =
+    let header = c in
+    let args = header.args in
+    opens_no_other args.key.now args.sealed.now args.dummy.now header.check_header-header.ensures c.enum_told-in_default-1.given.1

@@ -1,0 +1,10 @@
+use Rattle.make_key_output.proofs.Keys.{of_seed}
+use Rattle.make_key_output.proofs.seeded_keys.Goals as goal
+
+pub returns : goal.returns
+returns c =
+    let called = c in
+    let start = called in
+    let (size, (public-size, secret-size)) = start.requires in
+    let (answered, (public, secret)) = called.keygen_from_seed.ensures in
+    of_seed start.args.input.now size start.args.public.now start.args.secret.now public-size secret-size answered public secret

@@ -1,0 +1,80 @@
+use mathlib.Core.Path.{◌≡◌, sym, ap, ◌∙◌}
+use mathlib.Core.List.{List}
+use Prim.Native.Nat.{ℕ}
+use lib.IntN.{pos}
+use lib.ListN.{length, replicate}
+use mathlib.Core.Bool.{Bool, true, false, cond, ◌&&◌}
+use lib.Dec.{eqb, leb}
+use borrow.Author.Tests.{not-true, not-false}
+use Rattle.answers.specs.declared.Refusal.TheVariants.{WrongLength}
+use Rattle.answers.specs.declared.Answer.{Answer}
+use Rattle.answers.specs.Answers.{unless, on_done}
+use Rattle.records.specs.Records.{body_part, tag_part, sealed_entry_answer}
+use Rattle.secret_keys.specs.SecretKeys.{secret_answer}
+use Rattle.calls.specs.Calls.{opened_entry, open_answer, open_out}
+use Rattle.recovery.specs.Outcomes.{opened_by}
+use Rattle.opening.specs.Parts.{opened_outcome, opened_quotients}
+use Rattle.calls.proofs.Lengths.{open-fits}
+use Rattle.opening.proofs.Laws.{entry-front}
+use borrow.Author.Rules.{rules}
+use Rattle.opening.proofs.open_entry.Goals as goal
+
+abbrev whole : (key sealed noise : List ℕ) → Answer
+whole k e noise = opened_by (secret_answer k) (sealed_entry_answer e) (opened_outcome k e noise) (body_part e) (tag_part e)
+
+pub returns-then-not-fits : goal.returns-then-not-fits
+unfolding open_answer open_out
+returns-then-not-fits c =
+    let args = c.args in
+    let k = args.key.now in
+    let e = args.sealed.now in
+    let noise = args.noise.now in
+    let old = args.out.now in
+    let misfit : leb 5 (length k) && eqb (length e) 4133 && eqb (length noise) 1536 && eqb (length old) 16 ≡ false = not-true _ c.if-not-fits.true in
+    let answer = sym (ap (λ (b : Bool). unless b WrongLength (whole k e noise)) misfit) in
+    let kept = ap (λ (a : Answer). on_done a (opened_entry (opened_outcome k e noise) (body_part e)) old) answer in
+    let none = sym (ap (λ (b : Bool). cond b (opened_quotients k e noise) (replicate 1024 (pos 0))) misfit) in record { answer_value = answer; quotients_value = none; out_after = kept }
+
+pub slice_bounds-open_sealed-end-2 : goal.slice_bounds-open_sealed-end-2
+slice_bounds-open_sealed-end-2 c =
+    let left = c in
+    let args = left.args in
+    let (key, sealed, noise, room) =
+    (open-fits args.key.now args.sealed.now args.noise.now (length args.out.now)).0 (not-false _ left.if-not-fits.false) in
+    search rules
+
+pub slice_bounds-open_sealed-end-3 : goal.slice_bounds-open_sealed-end-3
+slice_bounds-open_sealed-end-3 c =
+    let left = c in
+    let args = left.args in
+    let (key, sealed, noise, room) =
+    (open-fits args.key.now args.sealed.now args.noise.now (length args.out.now)).0 (not-false _ left.if-not-fits.false) in
+    search rules
+
+pub open_sealed-requires : goal.open_sealed-requires
+open_sealed-requires c =
+    let left = c in
+    let args = left.args in
+    let (key, sealed, noise, room) =
+    (open-fits args.key.now args.sealed.now args.noise.now (length args.out.now)).0 (not-false _ left.if-not-fits.false) in
+    let size = sealed in
+    (search rules, noise, search rules, search rules, search rules)
+
+pub returns : goal.returns
+unfolding open_answer open_out
+returns c =
+    let opened = c in
+    let left = opened in
+    let args = left.args in
+    let k = args.key.now in
+    let e = args.sealed.now in
+    let noise = args.noise.now in
+    let old = args.out.now in
+    let fits : leb 5 (length k) && eqb (length e) 4133 && eqb (length noise) 1536 && eqb (length old) 16 ≡ true = not-false _ left.if-not-fits.false in
+    let (checked, (quotients, written)) = opened.open_sealed.ensures in
+    let answer =
+    checked
+    ∙ ap (λ (x : Answer). opened_by (secret_answer k) x (opened_outcome k e noise) (body_part e) (tag_part e)) (entry-front e)
+    ∙ sym (ap (λ (b : Bool). unless b WrongLength (whole k e noise)) fits) in
+    let out = written ∙ ap (λ (a : Answer). on_done a (opened_entry (opened_outcome k e noise) (body_part e)) old) answer in
+    let w = quotients ∙ sym (ap (λ (b : Bool). cond b (opened_quotients k e noise) (replicate 1024 (pos 0))) fits) in record { answer_value = answer; quotients_value = w; out_after = out }

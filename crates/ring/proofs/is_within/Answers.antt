@@ -1,0 +1,32 @@
+use mathlib.Core.Path.{◌≡◌, sym, ◌∙◌}
+use mathlib.Core.Logic.{⊎_elim}
+use Prim.Native.Nat.{◌-◌}
+use native.Mathlib.Omega.{arith}
+use lib.ListN.{length}
+use borrow.Author.Rules.{rules}
+use borrow.Author.Tests.{not-true, not-false}
+use Rattle.lists.proofs.Scan.{scanned_none, scanned_pass, scanned_fail}
+use Rattle.ring.specs.Ring.{n}
+use Rattle.ring.specs.Centred.{is_near}
+use Rattle.ring.proofs.Scans.{within-scanned}
+use Rattle.ring.proofs.is_within.Goals as goal
+
+pub loop-i-init : goal.loop-i-init
+loop-i-init c = scanned_none _ _
+
+pub loop-i-preserved : goal.loop-i-preserved
+loop-i-preserved c =
+    let at = c in
+    let inv = at.loop-i.invariant in
+    let size : length at.args.a ≡ n = search rules in
+    let near = sym c.is_near.ensures in
+    ⊎_elim
+    (λ w. rw w.1 (scanned_fail inv (omega arith) (near ∙ not-true _ w.0.taken)))
+    (λ w. rw w.1 (scanned_pass inv (omega arith) (near ∙ not-false _ w.0.left)))
+    c.if-not-is_near.branch
+
+pub returns : goal.returns
+returns c =
+    let at = c in
+    let size : length at.args.a ≡ n = search rules in
+    within-scanned at.args.k at.args.a at.loop-i.invariant (omega arith)

@@ -1,0 +1,26 @@
+use mathlib.Core.Path.{◌≡◌, ap, ◌∙◌}
+use mathlib.Core.Bool.{not, decide}
+use mathlib.Core.List.{List}
+use Prim.Native.Nat.{ℕ}
+use lib.ListN.{length}
+use Rattle.exactness.specs.Scheme as Any
+use Rattle.ring.specs.Ring.{sum, multiple}
+use Rattle.ring.specs.Invertible.{is_invertible}
+use Rattle.ring.specs.Reciprocals.{has_zero}
+use Rattle.ring.proofs.Transforms.{zero_decides}
+use Rattle.scheme.specs.Scheme.{key_element}
+use borrow.Author.Rules.{rules}
+use Rattle.scheme.proofs.generate.Goals as goal
+
+pub returns : goal.returns
+unfolding Any.key_element
+returns c =
+    let made = c in
+    let args = made.args in
+    let b : made.multiple-b.result ≡ key_element args.a args.s args.e =
+    made.multiple-b.ensures ∙ ap (multiple 5) (made.sum.ensures ∙ ap (λ (x : List ℕ). sum x args.e) made.product_with.ensures) in
+    let size : length made.multiple-b.result ≡ 1024 = search rules in (
+      b,
+      ap not (c.has_zero-zero.ensures ∙ ap has_zero c.forward.ensures) ∙ zero_decides made.multiple-b.result size
+          ∙ ap (λ (x : List ℕ). decide (is_invertible x)) b,
+    )

@@ -1,0 +1,77 @@
+use mathlib.Core.Path.{◌≡◌, refl, sym, ap, ◌∙◌}
+use mathlib.Core.List.{List}
+use Prim.Native.Nat.{ℕ, ◌≤◌, ◌-◌, ◌/◌, ◌+◌, ◌*◌}
+use native.Mathlib.Omega.{arith}
+use lib.ListN.{length, take, drop}
+use Rattle.lists.specs.Table.{table}
+use Rattle.lists.proofs.Parts.{length_part}
+use Rattle.string_to_state.specs.Words.{word}
+use Rattle.string_to_state.proofs.Lanes.{words-zeros}
+use Rattle.shake.specs.Sponge.{block}
+use Rattle.shake.specs.Shake.{padded}
+use Rattle.shake.proofs.Blocks.{start_fits, last_place, rest-fits, block_inside, block_end}
+use Rattle.shake.proofs.block_words.Goals as goal
+
+-- block k lies within the message
+fits : (c : goal.Then-input-at) →
+    c.args.rate * c.args.k + c.args.rate ≤ length c.args.input.now
+fits c = omega (arith, start_fits _ _ _ c.requires.1, c.if-input-at.true)
+
+pub overflow_mul-at : goal.overflow_mul-at
+overflow_mul-at c = omega (arith, start_fits _ _ _ c.requires.1)
+
+pub overflow_sub-input : goal.overflow_sub-input
+overflow_sub-input c = start_fits _ _ _ c.requires.1
+
+pub overflow_add-at : goal.overflow_add-at
+overflow_add-at c = omega (arith, fits c)
+
+pub slice_bounds-words-end : goal.slice_bounds-words-end
+slice_bounds-words-end c = fits c
+
+pub words-requires : goal.words-requires
+words-requires c =
+    let start = c in
+    let r = start.args.rate in
+    let at = r * start.args.k in
+    let size : at + r - at ≡ r = omega arith in
+    rw (length_part at (at + r) start.args.input.now (fits (goal.at.words-requires c).Then-input-at), size) start.requires.0.lanes
+
+pub returns-then-input-at : goal.returns-then-input-at
+returns-then-input-at c =
+    let start = c in
+    let r = start.args.rate in
+    let m = start.args.input.now in
+    let at = r * start.args.k in
+    let size : at + r - at ≡ r = omega arith in
+    let inside : take (at + r - at) (drop at m) ≡ block r start.args.k (padded r m) =
+    rw size (sym (block_inside r start.requires.0.some m start.args.k (fits (goal.at.returns-then-input-at c).Then-input-at))) in
+    c.words.ensures ∙ ap (λ (b : List ℕ). table 25 (word b)) inside
+
+pub slice_bounds-last_block-count : goal.slice_bounds-last_block-count
+slice_bounds-last_block-count c = start_fits _ _ _ c.requires.1
+
+pub slice_bounds-last_block-start : goal.slice_bounds-last_block-start
+slice_bounds-last_block-start c = start_fits _ _ _ c.requires.1
+
+pub last_block-b-requires : goal.last_block-b-requires
+last_block-b-requires c =
+    let start = c in
+    let r = start.args.rate in
+    let m = start.args.input.now in
+    let last : start.args.k ≡ length m / r = last_place r (length m) start.args.k start.requires.1 (omega (arith, c.if-input-at.false)) in
+    let fit = rest-fits r (length m) start.requires.0.some in
+    (rw (last, length_part (r * (length m / r)) (length m) m (omega arith)) (omega (arith, fit.1, fit.2)), start.requires.0.most)
+
+pub returns : goal.returns
+returns c =
+    let made = c in
+    let left = made in
+    let start = left in
+    let r = start.args.rate in
+    let m = start.args.input.now in
+    let k = start.args.k in
+    let last : k ≡ length m / r = last_place r (length m) k start.requires.1 (omega (arith, left.if-input-at.false)) in
+    c.words-2.ensures
+    ∙ ap (λ (b : List ℕ). table 25 (word b)) (block_end r start.requires.0.some m k _ _ last refl made.last_block-b.ensures)
+    ∙ words-zeros (block r k (padded r m)) (200 - r)
