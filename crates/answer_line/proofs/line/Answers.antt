@@ -5,9 +5,9 @@ use Rattle.answer_line.proofs.line.Goals as goal
 pub returns-in-Done : goal.returns-in-Done
 returns-in-Done c =
     let args = c.args in
-    holds (done_line args.entry c.enum_told-1.given.1) c.entry_line.ensures
+    holds (done_line args.entry c.in-Done.is) c.entry_line.ensures
 
 pub returns : goal.returns
 returns c =
     let args = c.args in
-    holds (refused_line args.entry c.enum_told-in_default-1.given.1 c.number.ensures) c.refusal_line.ensures
+    holds (refused_line args.entry c.in_default.is c.number.ensures) c.refusal_line.ensures

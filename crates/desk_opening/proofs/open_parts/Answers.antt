@@ -7,10 +7,10 @@ returns-in-Done c =
     let header = told in
     let args = header.args in
     let (answer, (entry, _)) = (goal.at.returns-in-Done c).After-open-answer.«open».ensures in
-    opens_version_1 args.key.now args.sealed.now args.dummy.now header.check_header-header.ensures told.enum_told-1.given.1 answer entry
+    opens_version_1 args.key.now args.sealed.now args.dummy.now header.check_header-header.ensures told.in-Done.is answer entry
 
 pub returns : goal.returns
 returns c =
     let header = c in
     let args = header.args in
-    opens_no_other args.key.now args.sealed.now args.dummy.now header.check_header-header.ensures c.enum_told-in_default-1.given.1
+    opens_no_other args.key.now args.sealed.now args.dummy.now header.check_header-header.ensures c.in_default.is

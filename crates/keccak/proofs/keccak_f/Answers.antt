@@ -23,4 +23,4 @@ returns c =
     let all : c.loop-i.i ≡ 12 = omega arith in
     let loop = rw all at c.loop-i.invariant.1 in
     c.complemented.ensures ∙ ap complemented (loop ∙ ap (rounds_from 0 24) c.complemented-s.ensures)
-    ∙ all-rounds start.args.a (wide start.args.a _ start.well-formed.0)
+    ∙ all-rounds start.args.a (wide start.args.a _ start.well_formed.0)

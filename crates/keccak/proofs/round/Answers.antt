@@ -13,4 +13,4 @@ returns c =
     c.iota.ensures
     ∙ ap (iota _)
     (c.chi.ensures ∙ ap complemented_chi (c.pi-linear.ensures ∙ ap pi (c.rho.ensures ∙ ap rho at-theta.theta.ensures)))
-    ∙ round_steps _ a (wide a _ start.well-formed.0)
+    ∙ round_steps _ a (wide a _ start.well_formed.0)

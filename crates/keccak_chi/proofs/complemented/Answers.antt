@@ -14,4 +14,4 @@ returns c =
     let at_1 = at-2 in
     let a = at_1.args.a in
     planes-same at_1.xor_planes.ensures at-2.xor_planes-2.ensures at-3.xor_planes-3.ensures at-4.xor_planes-4.ensures c.xor_planes-5.ensures
-    ∙ sym (complemented-sum marks a (wide a _ at_1.well-formed.0))
+    ∙ sym (complemented-sum marks a (wide a _ at_1.well_formed.0))

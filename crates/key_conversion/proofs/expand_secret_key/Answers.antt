@@ -46,7 +46,7 @@ write_expanded-requires c =
     let k = args.key.now in
     let room = length args.out.now in
     let (_, fits) = both (leb header_length (length k)) (eqb room expanded_key_length) (not-false _ left.if-not-fits.false) in
-    (long_enough false k (sym checked.check_version-checked.ensures.answer_value ∙ c.enum_told-1.given.1), eqb-true room expanded_key_length fits)
+    (long_enough false k (sym checked.check_version-checked.ensures.answer_value ∙ c.in-Done.is), eqb-true room expanded_key_length fits)
 
 pub returns-in-Done : goal.returns-in-Done
 unfolding expand_answer expand_out
@@ -61,7 +61,7 @@ returns-in-Done c =
     let fits : leb header_length (length k) && eqb (length old) expanded_key_length ≡ true = not-false _ left.if-not-fits.false in
     let (says, inverse) = checked.check_version-checked.ensures in
     let answer = says ∙ sym (ap (λ (b : Bool). unless b WrongLength (version_answer secret_key_version k)) fits) in
-    let done = told.enum_told-1.given.1 in
+    let done = told.in-Done.is in
     let i = back.backward.ensures ∙ ap coefficients_of inverse ∙ inverse-read k (sym says ∙ done) in
     let written = c.write_expanded.ensures ∙ ap (expanded_bytes k) i ∙ sym (on_done_lem _ old (sym answer ∙ done)) in record { value = answer; out_after = written; expand_exact = expand_promise k old (ap number answer) written }
 
@@ -75,4 +75,4 @@ returns-in_default c =
     let old = args.out.now in
     let fits : leb header_length (length k) && eqb (length old) expanded_key_length ≡ true = not-false _ left.if-not-fits.false in
     let answer = checked.check_version-checked.ensures.answer_value ∙ sym (ap (λ (b : Bool). unless b WrongLength (version_answer secret_key_version k)) fits) in
-    let kept = ap (λ (a : Answer). on_done a (expanded_bytes k (inverse_of (second_of k))) old) (sym c.enum_told-in_default-1.given.1 ∙ answer) in record { value = answer; out_after = kept; expand_exact = expand_promise k old (ap number answer) kept }
+    let kept = ap (λ (a : Answer). on_done a (expanded_bytes k (inverse_of (second_of k))) old) (sym c.in_default.is ∙ answer) in record { value = answer; out_after = kept; expand_exact = expand_promise k old (ap number answer) kept }

@@ -11,7 +11,7 @@ returns-in-Done c =
     let start = made in
     let input = start.args.input.now in
     let (answered, (public, secret)) = made.keys_of-answer.ensures in
-    let told = c.enum_told-1.given.1 in
+    let told = c.in-Done.is in
     let (public-size, secret-size) = start.requires in
     let output = output-done input start.args.public.now (sym answered ∙ told) (rw told at public) (rw told at secret) public-size
     (made.keys_of-answer.auto.1.1.0 ∙ secret-size) c.public_length.ensures in (
@@ -29,7 +29,7 @@ returns c =
     let start = made in
     let input = start.args.input.now in
     let (answered, (public, secret)) = made.keys_of-answer.ensures in
-    let output = output_refused input made.keys_of-answer.new.secret.0 made.keys_of-answer.new.secret.1.0 (sym answered ∙ c.enum_told-in_default-1.given.1) in (
+    let output = output_refused input made.keys_of-answer.new.secret.0 made.keys_of-answer.new.secret.1.0 (sym answered ∙ c.in_default.is) in (
       rw answered at public,
       (
         rw answered at secret,

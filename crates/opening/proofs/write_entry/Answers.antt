@@ -3,4 +3,4 @@ use Rattle.answers.proofs.AnswerLaws.{on_done_lem}
 use Rattle.opening.proofs.write_entry.Goals as goal
 
 pub returns-in-Done : goal.returns-in-Done
-returns-in-Done c = c.under_keystream.ensures ∙ sym (on_done_lem _ _ c.enum_told-1.given.1)
+returns-in-Done c = c.under_keystream.ensures ∙ sym (on_done_lem _ _ c.in-Done.is)

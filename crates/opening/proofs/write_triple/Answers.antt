@@ -16,4 +16,4 @@ returns-in-Done c =
     let size : length old ≡ triple_length = start.requires in
     c.write_triple.ensures
     ∙ put-exact (triple_bytes t.r t.e1 t.e2) old (length-triple_bytes t.r t.e1 t.e2 ∙ sym size)
-    ∙ sym (on_done_lem _ _ told.enum_told-1.given.1)
+    ∙ sym (on_done_lem _ _ told.in-Done.is)

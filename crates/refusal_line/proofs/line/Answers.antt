@@ -16,4 +16,4 @@ returns c =
     let told = made in
     let digits = put_more (decimal made.number.result) (put_none (zeros 21)) made.put_decimal-digits.ensures.value made.put_decimal-digits.ensures.out_after in
     let all = put_more (10 ∷ []) digits c.put-length.ensures.value c.put-length.ensures.out_after in
-    refusal-put told.args.answer told.enum_told-in_default-1.given.1 made.number.ensures all
+    refusal-put told.args.answer told.in_default.is made.number.ensures all

@@ -11,4 +11,4 @@ returns-in-Done c =
     let (body, tag) = put.protect-tag.ensures in
     c.write_sealed_entry.ensures
     ∙ ap₂ (sealed_entry_bytes args.c1 args.c2) body tag
-    ∙ sym (on_done_lem _ _ told.enum_told-1.given.1)
+    ∙ sym (on_done_lem _ _ told.in-Done.is)

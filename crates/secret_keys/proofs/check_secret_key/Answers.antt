@@ -9,7 +9,7 @@ pub read_shared-read-requires : goal.read_shared-read-requires
 read_shared-read-requires c =
     let read = c in
     let start = read in
-    (layout_long start.args.bytes.now (sym read.check_layout-layout.ensures ∙ c.enum_told-1.given.1), start.requires)
+    (layout_long start.args.bytes.now (sym read.check_layout-layout.ensures ∙ c.in-Done.is), start.requires)
 
 pub check_unit-unit-requires : goal.check_unit-unit-requires
 check_unit-unit-requires c =
@@ -17,7 +17,7 @@ check_unit-unit-requires c =
     let read = shared in
     let start = read in
     let (a, b, s) = shared.read_shared-read.ensures.a_value in
-    (layout-size start.args.bytes.now (sym read.check_layout-layout.ensures ∙ shared.enum_told-1.given.1), b, start.requires.0)
+    (layout-size start.args.bytes.now (sym read.check_layout-layout.ensures ∙ shared.in-Done.is), b, start.requires.0)
 
 pub returns-in-Done : goal.returns-in-Done
 returns-in-Done c =
@@ -25,7 +25,7 @@ returns-in-Done c =
     let shared = unit in
     let read = shared in
     let k = read.args.bytes.now in
-    let passed : layout_answer k ≡ Done = sym read.check_layout-layout.ensures ∙ shared.enum_told-1.given.1 in
+    let passed : layout_answer k ≡ Done = sym read.check_layout-layout.ensures ∙ shared.in-Done.is in
     let ((pair, codes, matches), spectra) = shared.read_shared-read.ensures in
     let (stored, found) = unit.check_unit-unit.ensures in
     says_as k (is_expanded k) refl passed (content_joined k (is_expanded k) pair stored c.and_then-words.ensures codes found matches c.content_answer.ensures)
@@ -33,4 +33,4 @@ returns-in-Done c =
 pub returns : goal.returns
 returns c =
     let read = c in
-    says_refused read.args.bytes.now read.check_layout-layout.ensures c.enum_told-in_default-1.given.1
+    says_refused read.args.bytes.now read.check_layout-layout.ensures c.in_default.is

@@ -13,14 +13,14 @@ known agreed differed at e p = p ∙ sym (ap (λ (v : Verdict). counted (Counts 
 pub returns-in-Agreed : goal.returns-in-Agreed
 returns-in-Agreed c =
     let args = c.args in
-    known args.agreed args.differed args.at c.enum_told-1.given.1 (ap (λ (n : ℕ). Counts n args.differed) c.one_more.ensures)
+    known args.agreed args.differed args.at c.in-Agreed.is (ap (λ (n : ℕ). Counts n args.differed) c.one_more.ensures)
 
 pub returns-in-Differed : goal.returns-in-Differed
 returns-in-Differed c =
     let args = c.args in
-    known args.agreed args.differed args.at c.enum_told-in-Differed-1.given.1 (ap (λ (n : ℕ). Counts args.agreed n) c.one_more-in-Differed.ensures)
+    known args.agreed args.differed args.at c.in-Differed.is (ap (λ (n : ℕ). Counts args.agreed n) c.one_more-in-Differed.ensures)
 
 pub returns-in-Malformed : goal.returns-in-Malformed
 returns-in-Malformed c =
     let args = c.args in
-    known args.agreed args.differed args.at c.enum_told-in-Malformed-1.given.1 refl
+    known args.agreed args.differed args.at c.in-Malformed.is refl

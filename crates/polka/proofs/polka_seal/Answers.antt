@@ -1,0 +1,7 @@
+use mathlib.Core.Path.{ap, ◌∙◌}
+use Rattle.answers.specs.Locations.{code}
+use Rattle.polka.proofs.polka_seal.Goals as goal
+
+pub returns : goal.returns
+returns c =
+    let made = c.seal-answer.ensures in record { value = c.code.ensures ∙ ap code made.0; out_after = made.1 }
