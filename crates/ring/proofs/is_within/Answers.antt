@@ -21,8 +21,8 @@ loop-i-preserved c =
     let size : length at.args.a ≡ n = search rules in
     let near = sym c.is_near.ensures in
     elim c.if-not-is_near.branch [
-      then-not-is_near w ↦ rw w.all-is (scanned_fail inv (omega arith) (near ∙ not-true _ w.if-not-is_near.true))
-      | else-not-is_near w ↦ rw w.all-is (scanned_pass inv (omega arith) (near ∙ not-false _ w.if-not-is_near.false))
+      then-not-is_near w ↦ rw w.all-is (scanned_fail inv (omega arith) (near ∙ w.if-not-is_near.true))
+      | else-not-is_near w ↦ rw w.all-is (scanned_pass inv (omega arith) (near ∙ w.if-not-is_near.false))
     ]
 
 pub returns : goal.returns
