@@ -8,8 +8,7 @@ use Rattle.secret_keys.proofs.check_secret_key.Goals as goal
 pub read_shared-read-requires : goal.read_shared-read-requires
 read_shared-read-requires c =
     let read = c in
-    let start = read in
-    (layout_long start.args.bytes.now (sym read.check_layout-layout.ensures ∙ c.in-Done.is), start.requires)
+    let start = read in record { secret_key_length_in_bounds = layout_long start.args.bytes.now (sym read.check_layout-layout.ensures ∙ c.in-Done.is); forward_value = start.requires }
 
 pub check_unit-unit-requires : goal.check_unit-unit-requires
 check_unit-unit-requires c =
