@@ -9,7 +9,8 @@ returns-in-Done c =
     let made = c in
     let start = made in
     let input = start.args.input.now in
-    let (answered, sealed) = made.sealed_of-answer.ensures in
+    let answered = made.sealed_of-answer.ensures.value in
+    let sealed = made.sealed_of-answer.ensures.sealed_after in
     let told = c.in-Done.is in
     let output = output-done input (sym answered ∙ told) (rw told at sealed) (made.sealed_of-answer.auto.1.0 ∙ start.requires) in
     (rw answered at sealed, (output.size, (output.bytes, rw answered at c.line-error.ensures)))
@@ -20,6 +21,7 @@ returns c =
     let made = c in
     let start = made in
     let input = start.args.input.now in
-    let (answered, sealed) = made.sealed_of-answer.ensures in
+    let answered = made.sealed_of-answer.ensures.value in
+    let sealed = made.sealed_of-answer.ensures.sealed_after in
     let output = output_refused input made.sealed_of-answer.new.1.0 (sym answered ∙ c.in_default.is) in
     (rw answered at sealed, (output.size, (output.bytes, rw answered at c.line-error.ensures)))

@@ -12,4 +12,5 @@ returns c =
     let args = called.args in
     let input = args.input.now in
     let sealed = args.sealed.now in
-    let (answered, written) = called.seal.ensures in record { value = answered ∙ of_parts (λ (key noise entry : List ℕ). seal_answer key noise entry (length sealed)) input; sealed_after = written ∙ of_parts (λ (key noise entry : List ℕ). seal_out key noise entry sealed) input }
+    let answered = called.seal.ensures.value in
+    let written = called.seal.ensures.out_after in record { value = answered ∙ of_parts (λ (key noise entry : List ℕ). seal_answer key noise entry (length sealed)) input; sealed_after = written ∙ of_parts (λ (key noise entry : List ℕ). seal_out key noise entry sealed) input }

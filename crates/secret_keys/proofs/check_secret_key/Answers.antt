@@ -25,7 +25,8 @@ returns-in-Done c =
     let read = shared in
     let k = read.args.bytes.now in
     let passed : layout_answer k ≡ Done = sym read.check_layout-layout.ensures ∙ shared.in-Done.is in
-    let ((pair, codes, matches), spectra) = shared.read_shared-read.ensures in
+    let (pair, codes, matches) = shared.read_shared-read.ensures.words_value in
+    let spectra = shared.read_shared-read.ensures.a_value in
     let (stored, found) = unit.check_unit-unit.ensures in
     says_as k (is_expanded k) refl passed (content_joined k (is_expanded k) pair stored c.and_then-words.ensures codes found matches c.content_answer.ensures)
 
