@@ -36,7 +36,9 @@ returns c =
     let noise = args.noise.now in
     let old = args.out.now in
     let same = checks_decide k batch noise (length old) (not-false _ left.if-not-fits.false) in
-    let (checked, (counted, written)) = opened.open_records.ensures in
+    let checked = opened.open_records.ensures.answer_value in
+    let counted = opened.open_records.ensures.count_value in
+    let written = opened.open_records.ensures.out_after in
     let answer = checked ∙ same in
     let count = counted ∙ count_by k batch noise (length old) 0 same in
     let out = written ∙ out_by k batch noise old same in record { answer_value = answer; count_value = count; out_after = out; open_batch_exact = open-batch_promise k batch noise old 0 (ap number answer) out count }

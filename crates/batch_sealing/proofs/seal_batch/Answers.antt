@@ -57,6 +57,8 @@ returns c =
     let count = sym counted.is_count.ensures ∙ not-false _ counted.if-not-is_count.false in
     let fits =
     fits_by args.key.now args.noise.now args.blocks.now (length args.out.now) left.is_public_length.ensures (not-false _ left.if-not-fits.false) in
-    let (checked, (triple, (c1, c2))) = made.encapsulate_noise-p.ensures in
+    let checked = made.encapsulate_noise-p.ensures.answer_value in
+    let triple = made.encapsulate_noise-p.ensures.triple_value in
+    let (c1, c2) = made.encapsulate_noise-p.ensures.c1_value in
     let answer =
     checked ∙ key_decides args.key.now args.noise.now args.blocks.now (length args.out.now) whole.if-size-ne0.false count fits in record { value = answer; out_after = c.write_sealed.ensures ∙ written args.key.now args.noise.now args.blocks.now args.out.now answer triple c1 c2 }

@@ -10,7 +10,9 @@ returns-in-Done c =
     let made = lined in
     let start = made in
     let input = start.args.input.now in
-    let (answered, (public, secret)) = made.keys_of-answer.ensures in
+    let answered = made.keys_of-answer.ensures.value in
+    let public = made.keys_of-answer.ensures.public_after in
+    let secret = made.keys_of-answer.ensures.secret_after in
     let told = c.in-Done.is in
     let (public-size, secret-size) = start.requires in
     let output = output-done input start.args.public.now (sym answered ∙ told) (rw told at public) (rw told at secret) public-size
@@ -28,7 +30,9 @@ returns c =
     let made = c in
     let start = made in
     let input = start.args.input.now in
-    let (answered, (public, secret)) = made.keys_of-answer.ensures in
+    let answered = made.keys_of-answer.ensures.value in
+    let public = made.keys_of-answer.ensures.public_after in
+    let secret = made.keys_of-answer.ensures.secret_after in
     let output = output_refused input made.keys_of-answer.new.secret.0 made.keys_of-answer.new.secret.1.0 (sym answered ∙ c.in_default.is) in (
       rw answered at public,
       (

@@ -6,5 +6,7 @@ returns c =
     let called = c in
     let start = called in
     let (size, (public-size, secret-size)) = start.requires in
-    let (answered, (public, secret)) = called.keygen_from_seed.ensures in
+    let answered = called.keygen_from_seed.ensures.value in
+    let public = called.keygen_from_seed.ensures.public_after in
+    let secret = called.keygen_from_seed.ensures.secret_after in
     of_seed start.args.input.now size start.args.public.now start.args.secret.now public-size secret-size answered public secret

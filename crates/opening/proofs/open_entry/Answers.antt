@@ -71,7 +71,9 @@ returns c =
     let noise = args.noise.now in
     let old = args.out.now in
     let fits : leb 5 (length k) && eqb (length e) 4133 && eqb (length noise) 1536 && eqb (length old) 16 ≡ true = not-false _ left.if-not-fits.false in
-    let (checked, (quotients, written)) = opened.open_sealed.ensures in
+    let checked = opened.open_sealed.ensures.answer_value in
+    let quotients = opened.open_sealed.ensures.quotients_value in
+    let written = opened.open_sealed.ensures.out_after in
     let answer =
     checked
     ∙ ap (λ (x : Answer). opened_by (secret_answer k) x (opened_outcome k e noise) (body_part e) (tag_part e)) (entry-front e)

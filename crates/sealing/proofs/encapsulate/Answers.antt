@@ -48,5 +48,6 @@ returns c =
     let t = args.triple.now in
     let old = args.out.now in
     let fits = encapsulate-fits_by k t (length old) left.is_public_length.ensures (not-false _ left.if-not-fits.false) in
-    let (checked, bytes) = made.encapsulate_records-e.ensures in
+    let checked = made.encapsulate_records-e.ensures.answer_value in
+    let bytes = made.encapsulate_records-e.ensures.c2_value in
     let answer = checked ∙ sym (ap (λ (b : Bool). unless b WrongLength (and_then (public_answer k) (triple_answer t))) fits) in record { value = answer; out_after = c.write_encapsulation.ensures ∙ ap₂ (λ (a : Answer) (x : List ℕ). on_done a x old) answer bytes }

@@ -52,5 +52,7 @@ returns c =
     let entry = args.entry.now in
     let old = args.out.now in
     let fits = seal-fits_by k noise entry (length old) left.is_public_length.ensures (not-false _ left.if-not-fits.false) in
-    let (checked, (triple, (c1, c2))) = made.encapsulate_noise-p.ensures in
+    let checked = made.encapsulate_noise-p.ensures.answer_value in
+    let triple = made.encapsulate_noise-p.ensures.triple_value in
+    let (c1, c2) = made.encapsulate_noise-p.ensures.c1_value in
     let answer = checked ∙ sym (ap (λ (b : Bool). unless b WrongLength (public_answer k)) fits) in record { value = answer; out_after = c.write_sealed.ensures ∙ seal-written k noise entry old answer triple c1 c2 }
