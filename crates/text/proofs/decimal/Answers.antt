@@ -21,4 +21,6 @@ loop-left-preserved c =
     written_more c.loop-left.invariant c.loop-left-test.true refl place
 
 pub returns : goal.returns
-returns c = written_last c.loop-left.invariant (omega arith) refl
+returns c =
+    let done = written_last c.loop-left.invariant (omega arith) refl in
+    record { bytes_value = done.0; start_value = done.1 }
