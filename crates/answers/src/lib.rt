@@ -1,5 +1,7 @@
 // What a call answers: its number, the place of a word that is out of range, both as one code, and how answers are joined, in the order of
 // the checks.
+#![tactic(auto)]
+
 ghost use Rattle.std.specs.Prelude.{◌≡◌};
 ghost use Rattle.answers.specs.declared.Answer.TheVariants.{Done};
 ghost use Rattle.answers.specs.Answers.{refusal_number, number, unless, and_then, on_done};

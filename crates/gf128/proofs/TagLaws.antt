@@ -161,7 +161,7 @@ folded-weighted {k} {start} (suc n) s hk hs small h =
     let small-rest = small-drop 16 s small in
     ap (folded k start (suc n)) (sym (take-append-drop 16 s))
     ∙ folded-first k start n b rest hb.size
-    ∙ folded-weighted n rest hk (product-block k (sum start b)) small-rest left
+    ∙ folded-weighted {start = product k (sum start b)} n rest hk (product-block k (sum start b)) small-rest left
     ∙ ap (λ (x : List ℕ). sum x (weighted k n rest))
     (power_more n (sum start b) hk ∙ product-sum (power-block k (suc n)) hs hb)
     ∙ sum_assoc (product-block p start) (product-block p b) (weighted-block k n rest small-rest left)

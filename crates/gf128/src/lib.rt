@@ -1,5 +1,7 @@
 // The field of 2^128 elements modulo x^128 + x^7 + x^2 + x + 1, its elements as 16 bytes, and the tag over blocks of 16 bytes. No branch and no
 // index depends on a byte: a bit selects by multiplication, and a comparison looks at every byte.
+#![tactic(auto)]
+
 ghost use Rattle.std.specs.Prelude.{◌≡◌, ◌++◌, ◌+◌, ◌*◌, ◌/◌, ◌%◌, ◌<◌, ◌≤◌, length};
 ghost use Rattle.std.specs.Int.Bits.{bit_xor};
 ghost use Rattle.lists.specs.Bits.{bit};

@@ -1,4 +1,6 @@
 // Hexadecimal text as ASCII bytes: lowercase is written, both cases are read. Every function takes any bytes and buffers of any length.
+#![tactic(auto)]
+
 ghost use Rattle.std.specs.Prelude.{◌≡◌, ◌*◌, ◌/◌, ◌%◌, ◌≤◌, min, length, take};
 ghost use Rattle.lists.specs.First.{first_failing};
 ghost use Rattle.hexadecimal.specs.Hex.{digit_of, value_of, is_digit, text_of, bytes_of, decoded, written};

@@ -1,5 +1,5 @@
 use mathlib.Core.Path.{sym, ap}
-use mathlib.Core.Bool.{Bool, true, false}
+use mathlib.Core.Bool.{Bool}
 use Rattle.answers.specs.declared.Answer.TheVariants.{Done}
 use Rattle.answers.specs.Answers.{unless}
 use Rattle.answers.proofs.unless.Goals as goal

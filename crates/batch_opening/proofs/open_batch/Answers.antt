@@ -14,7 +14,7 @@ returns-then-not-fits c =
     let batch = args.batch.now in
     let noise = args.noise.now in
     let old = args.out.now in
-    let answer = lengths_refused k batch noise (length old) (not-true _ c.if-not-fits.true) in
+    let answer = lengths_refused k batch noise (length old) (c.if-not-fits.true) in
     let count = count_by k batch noise (length old) 0 answer in
     let kept = out_by k batch noise old answer in record { answer_value = answer; count_value = count; out_after = kept; open_batch_exact = open-batch_promise k batch noise old 0 (ap number answer) kept count }
 

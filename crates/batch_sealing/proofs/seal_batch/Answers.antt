@@ -14,7 +14,7 @@ pub returns-then-not-is_count : goal.returns-then-not-is_count
 returns-then-not-is_count c =
     let whole = c in
     let args = whole.args in
-    let count = sym c.is_count.ensures ∙ not-true _ c.if-not-is_count.true in
+    let count = sym c.is_count.ensures ∙ c.if-not-is_count.true in
     let answer =
     count_refused args.key.now args.noise.now args.blocks.now (length args.out.now) whole.if-size-ne0.false count in record { value = answer; out_after = kept args.key.now args.noise.now args.blocks.now args.out.now answer }
 
@@ -25,7 +25,7 @@ returns-then-not-fits c =
     let args = whole.args in
     let count = sym counted.is_count.ensures ∙ not-false _ counted.if-not-is_count.false in
     let misfit =
-    fits_by args.key.now args.noise.now args.blocks.now (length args.out.now) c.is_public_length.ensures (not-true _ c.if-not-fits.true) in
+    fits_by args.key.now args.noise.now args.blocks.now (length args.out.now) c.is_public_length.ensures (c.if-not-fits.true) in
     let answer =
     lengths_refused args.key.now args.noise.now args.blocks.now (length args.out.now) whole.if-size-ne0.false count misfit in record { value = answer; out_after = kept args.key.now args.noise.now args.blocks.now args.out.now answer }
 
@@ -34,7 +34,7 @@ encapsulate_noise-p-requires c =
     let args = c.args in
     let (key, noise, room) =
     (sealing-fits args.key.now args.noise.now args.blocks.now (length args.out.now)).0
-    (fits_by args.key.now args.noise.now args.blocks.now (length args.out.now) c.is_public_length.ensures (not-false _ c.if-not-fits.false)) in
+    (fits_by args.key.now args.noise.now args.blocks.now (length args.out.now) c.is_public_length.ensures (c.if-not-fits.false)) in
     (key, noise)
 
 pub write_sealed-requires : goal.write_sealed-requires

@@ -1,4 +1,3 @@
-use Prim.Native.Nat.{◌-◌}
 use native.Mathlib.Omega.{arith}
 use Rattle.gf128.proofs.InPlace.{added_none, added_more, added_all}
 use borrow.Author.Rules.{rules}

@@ -1,5 +1,5 @@
 use mathlib.Core.Path.{refl, sym, ◌∙◌}
-use Prim.Native.Nat.{◌-◌, ◌<◌, ◌^◌}
+use Prim.Native.Nat.{◌<◌, ◌^◌}
 use native.Mathlib.Omega.{arith}
 use Rattle.lists.proofs.Fill.{filled-halves_none, filled-halves_more, filled-halves_all}
 use Rattle.gf128.proofs.Digits.{length-bytes, get_or-bytes, bytes-append}

@@ -1,6 +1,5 @@
 use mathlib.Core.Path.{◌≡◌}
 use mathlib.Core.Bool.{true, false}
-use Prim.Native.Nat.{◌-◌}
 use borrow.Author.Tests.{le-ltb, lt-ltb}
 use lib.ListN.{get_or}
 use Rattle.lists.proofs.Scan.{passed_none, passed_more, passed-stop, passed_all}

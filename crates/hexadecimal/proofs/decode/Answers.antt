@@ -8,15 +8,11 @@ use Rattle.hexadecimal.specs.Hex.{is_digit, bytes_of, decoded}
 use Rattle.hexadecimal.proofs.Text.{length-decoded, written-front}
 use Rattle.hexadecimal.proofs.decode.Goals as goal
 
--- the part of the buffer that is lent has n bytes
-lent : (c : goal.After-lesser-n) → length (take c.lesser-n.result c.args.out.now) ≡ c.lesser-n.result
-lent c = length-take-le c.lesser-n.result c.args.out.now (omega arith)
-
 pub slice_bounds-put_bytes-end-2 : goal.slice_bounds-put_bytes-end-2
-slice_bounds-put_bytes-end-2 c = sym (lent (goal.at.slice_bounds-put_bytes-end-2 c).After-lesser-n)
+slice_bounds-put_bytes-end-2 c = sym (length-take-le c.lesser-n.result c.args.out.now (omega arith))
 
 pub put_bytes-requires : goal.put_bytes-requires
-put_bytes-requires c = omega (arith, lent (goal.at.put_bytes-requires c).After-lesser-n)
+put_bytes-requires c = omega (arith, length-take-le c.lesser-n.result c.args.out.now (omega arith))
 
 pub returns : goal.returns
 returns c =
@@ -27,5 +23,8 @@ returns c =
     ap (λ (k : ℕ). k / 2) called.count_digits.ensures ∙ sym (length-decoded text) in
     let n : called.lesser-n.result ≡ min (length (decoded text)) (length out) =
     called.lesser-n.ensures ∙ ap (λ (k : ℕ). min k (length out)) pairs in
-    let within : called.lesser-n.result ≤ first_failing is_digit text / 2 = omega (arith, length-decoded text) in record { value = n; out_after = written-front (decoded text) out n
-          (c.put_bytes.ensures ∙ ap (λ (k : ℕ). take k (bytes_of text)) (lent called) ∙ sym (take-take _ _ (bytes_of text) within)) }
+    let within : called.lesser-n.result ≤ first_failing is_digit text / 2 = omega (arith, length-decoded text) in record {
+      value = n;
+      out_after = written-front (decoded text) out n
+          (c.put_bytes.ensures ∙ ap (λ (k : ℕ). take k (bytes_of text)) (length-take-le c.lesser-n.result c.args.out.now (omega arith)) ∙ sym (take-take _ _ (bytes_of text) within));
+    }

@@ -1,4 +1,4 @@
-use mathlib.Core.Path.{◌≡◌, sym, ap, ◌∙◌}
+use mathlib.Core.Path.{sym, ap, ◌∙◌}
 use Prim.Native.Nat.{ℕ, min}
 use native.Mathlib.Omega.{arith}
 use lib.ListN.{length, take}
@@ -7,15 +7,11 @@ use Rattle.hexadecimal.specs.Hex.{text_of}
 use Rattle.hexadecimal.proofs.Text.{length_text, written-front}
 use Rattle.hexadecimal.proofs.encode.Goals as goal
 
--- the part of the buffer that is lent has n bytes
-lent : (c : goal.After-lesser-n) → length (take c.lesser-n.result c.args.out.now) ≡ c.lesser-n.result
-lent c = length-take-le c.lesser-n.result c.args.out.now (omega arith)
-
 pub slice_bounds-put_text-end-2 : goal.slice_bounds-put_text-end-2
-slice_bounds-put_text-end-2 c = sym (lent (goal.at.slice_bounds-put_text-end-2 c).After-lesser-n)
+slice_bounds-put_text-end-2 c = sym (length-take-le c.lesser-n.result c.args.out.now (omega arith))
 
 pub put_text-requires : goal.put_text-requires
-put_text-requires c = omega (arith, lent (goal.at.put_text-requires c).After-lesser-n)
+put_text-requires c = omega (arith, length-take-le c.lesser-n.result c.args.out.now (omega arith))
 
 pub returns : goal.returns
 returns c =
@@ -24,4 +20,4 @@ returns c =
     let out = called.args.out.now in
     written-front (text_of bytes) out
     (called.lesser-n.ensures ∙ ap (λ (k : ℕ). min k (length out)) (sym (length_text bytes)))
-    (c.put_text.ensures ∙ ap (λ (k : ℕ). take k (text_of bytes)) (lent called))
+    (c.put_text.ensures ∙ ap (λ (k : ℕ). take k (text_of bytes)) (length-take-le c.lesser-n.result c.args.out.now (omega arith)))

@@ -1,22 +1,13 @@
 use mathlib.Core.Path.{◌≡◌, refl, sym, ◌∙◌}
-use Prim.Native.Nat.{◌+◌, ◌*◌, ◌-◌, ◌<◌, ◌≤◌}
+use Prim.Native.Nat.{◌+◌, ◌*◌, ◌<◌, ◌≤◌}
 use native.Mathlib.Omega.{arith}
 use lib.ListN.{length, get_or, take}
 use Rattle.lists.proofs.Fill.{filled_none, filled_more, filled-all}
 use lib.Seq.{length-take-le, get_or-take}
 use Rattle.lists.proofs.Scan.{first-within}
 use Rattle.hexadecimal.proofs.Text.{length-bytes, byte_at, value-lt}
-use Rattle.hexadecimal.specs.Hex.{is_digit, bytes_of, value_of}
+use Rattle.hexadecimal.specs.Hex.{is_digit, bytes_of}
 use Rattle.hexadecimal.proofs.put_bytes.Goals as goal
-
--- the two digits of the next byte
-high_lt : (c : goal.In-loop-i)
-    → value_of (get_or c.args.text.now (2 * c.loop-i.i) 0) < 16
-high_lt c = value-lt c.args.text.now (2 * c.loop-i.i) (omega arith)
-
-low-lt : (c : goal.In-loop-i)
-    → value_of (get_or c.args.text.now (2 * c.loop-i.i + 1) 0) < 16
-low-lt c = value-lt c.args.text.now (2 * c.loop-i.i + 1) (omega arith)
 
 pub loop-i-init : goal.loop-i-init
 loop-i-init c =
@@ -29,13 +20,17 @@ pub bounds-text-i : goal.bounds-text-i
 bounds-text-i c = omega (arith, first-within is_digit c.args.text.now)
 
 pub overflow_mul-out : goal.overflow_mul-out
-overflow_mul-out c = omega (arith, high_lt (goal.at.overflow_mul-out c).In-loop-i, c.value.ensures)
+overflow_mul-out c =
+    omega (arith, value-lt c.args.text.now (2 * c.loop-i.i) (omega arith), c.value.ensures)
 
 pub bounds-text-i-in-loop-i : goal.bounds-text-i-in-loop-i
 bounds-text-i-in-loop-i c = omega (arith, first-within is_digit c.args.text.now)
 
 pub overflow_add-out : goal.overflow_add-out
-overflow_add-out c = omega (arith, high_lt (goal.at.overflow_add-out c).In-loop-i, low-lt (goal.at.overflow_add-out c).In-loop-i, c.value-in-loop-i.ensures, c.value.ensures)
+overflow_add-out c =
+    let i = c.loop-i.i in
+    let text = c.args.text.now in
+    omega (arith, value-lt text (2 * i) (omega arith), value-lt text (2 * i + 1) (omega arith), c.value-in-loop-i.ensures, c.value.ensures)
 
 pub loop-i-preserved : goal.loop-i-preserved
 loop-i-preserved c =

@@ -26,7 +26,7 @@ returns-then-not-fits c =
     let public = args.public.now in
     let secret = args.secret.now in
     let misfit : eqb (length stream) 2688 && eqb (length s) 512 && eqb (length e) 512 && eqb (length public) 4101 && eqb (length secret) 4357 ≡ false =
-    not-true _ c.if-not-fits.true in
+    c.if-not-fits.true in
     let answer = sym (ap (λ (b : Bool). unless b WrongLength (generated_answer stream s e)) misfit) in record { value = answer; public_after = ap (λ (a : Answer). on_done a (new_public_key stream s e) public) answer; secret_after = ap (λ (a : Answer). on_done a (new_secret_key stream s e) secret) answer }
 
 pub write_public_key-requires : goal.write_public_key-requires

@@ -23,7 +23,7 @@ returns-then-not-fits c =
     let args = c.args in
     let k = args.key.now in
     let old = args.out.now in
-    let misfit : leb header_length (length k) && eqb (length old) secret_key_length ≡ false = not-true _ c.if-not-fits.true in
+    let misfit : leb header_length (length k) && eqb (length old) secret_key_length ≡ false = c.if-not-fits.true in
     let answer = sym (ap (λ (b : Bool). unless b WrongLength (version_answer expanded_key_version k)) misfit) in
     let kept = ap (λ (a : Answer). on_done a (compact_bytes k) old) answer in record { value = answer; out_after = kept; compact_exact = compact_promise k old (ap number answer) kept }
 

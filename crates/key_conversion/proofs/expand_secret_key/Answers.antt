@@ -25,7 +25,7 @@ returns-then-not-fits c =
     let args = c.args in
     let k = args.key.now in
     let old = args.out.now in
-    let misfit : leb header_length (length k) && eqb (length old) expanded_key_length ≡ false = not-true _ c.if-not-fits.true in
+    let misfit : leb header_length (length k) && eqb (length old) expanded_key_length ≡ false = c.if-not-fits.true in
     let answer = sym (ap (λ (b : Bool). unless b WrongLength (version_answer secret_key_version k)) misfit) in
     let kept = ap (λ (a : Answer). on_done a (expanded_bytes k (inverse_of (second_of k))) old) answer in record { value = answer; out_after = kept; expand_exact = expand_promise k old (ap number answer) kept }
 

@@ -20,4 +20,5 @@ returns c =
     let new-secret = called.keygen.ensures.secret_after in
     -- compared by itself, so that other noise is seen at once
     let by-s = argument_is (λ (s : List ℕ). keygen_secret (part 0 2688 input) s (part 3200 512 input) public secret) _ (part 2688 512 input) new-secret refl in
-    of-stream input size public secret public-size secret-size answered new-public by-s
+    let all = of-stream input size public secret public-size secret-size answered new-public by-s in
+    record { value = all.0; public_after = all.1.0; secret_after = all.1.1 }

@@ -9,4 +9,5 @@ returns c =
     let answered = called.keygen_from_seed.ensures.value in
     let public = called.keygen_from_seed.ensures.public_after in
     let secret = called.keygen_from_seed.ensures.secret_after in
-    of_seed start.args.input.now size start.args.public.now start.args.secret.now public-size secret-size answered public secret
+    let all = of_seed start.args.input.now size start.args.public.now start.args.secret.now public-size secret-size answered public secret in
+    record { value = all.0; public_after = all.1.0; secret_after = all.1.1 }

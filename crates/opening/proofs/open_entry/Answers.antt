@@ -30,7 +30,7 @@ returns-then-not-fits c =
     let e = args.sealed.now in
     let noise = args.noise.now in
     let old = args.out.now in
-    let misfit : leb 5 (length k) && eqb (length e) 4133 && eqb (length noise) 1536 && eqb (length old) 16 ≡ false = not-true _ c.if-not-fits.true in
+    let misfit : leb 5 (length k) && eqb (length e) 4133 && eqb (length noise) 1536 && eqb (length old) 16 ≡ false = c.if-not-fits.true in
     let answer = sym (ap (λ (b : Bool). unless b WrongLength (whole k e noise)) misfit) in
     let kept = ap (λ (a : Answer). on_done a (opened_entry (opened_outcome k e noise) (body_part e)) old) answer in
     let none = sym (ap (λ (b : Bool). cond b (opened_quotients k e noise) (replicate 1024 (pos 0))) misfit) in record { answer_value = answer; quotients_value = none; out_after = kept }

@@ -15,7 +15,7 @@ pub returns-then-not-fits : goal.returns-then-not-fits
 unfolding product_number product_out
 returns-then-not-fits c =
     let args = c.args in
-    let misfit : fit args.a.now args.b.now args.out.now ≡ false = not-true _ c.if-not-fits.true in record { value = rw misfit; out_after = rw misfit }
+    let misfit : fit args.a.now args.b.now args.out.now ≡ false = c.if-not-fits.true in record { value = rw misfit; out_after = rw misfit }
 
 pub returns : goal.returns
 unfolding product_number product_out

@@ -5,7 +5,7 @@ use Rattle.ring.specs.Ring.{q, n}
 use Rattle.sampling.proofs.Streams.{stream-words}
 use Rattle.sampling.proofs.Reading.{read_none, read_pass, read_take, read-full, read_all}
 use Rattle.sampling.proofs.uniform.Goals as goal
-use Rattle.sampling.proofs.uniform.Goals.{then-w-lt-Q, else-w-lt-Q}
+use Rattle.sampling.proofs.uniform.Goals.{then-w-lt-Q+else-count-eq-DEGREE, else-w-lt-Q}
 
 pub blocks-2-init : goal.blocks-2-init
 blocks-2-init c = (omega arith, omega arith, read_none q n _ _ refl)
@@ -24,7 +24,7 @@ loop-j-preserved c =
     let next : 84 * k + (at.loop-j.j + 1) ≡ 84 * k + at.loop-j.j + 1 = omega arith in
     let word = c.word-w.ensures in
     elim c.if-w-lt-Q.branch [
-      then-w-lt-Q w ↦
+      then-w-lt-Q+else-count-eq-DEGREE w ↦
         (omega arith, block, omega (arith, w.if-count-eq-DEGREE.false, w.count-is),
           rw (next, w.value-is, w.count-is) (read_take _ inv (omega arith) (omega arith) word w.if-w-lt-Q.true room))
       | else-w-lt-Q w ↦

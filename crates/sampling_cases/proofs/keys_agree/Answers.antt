@@ -11,7 +11,7 @@ returns-then-secret-ne-SECRET_KEY_LENGTH c = rw (eq-eqb _ 4101 c.if-public-ne-PU
 pub returns-then-not-element_agrees : goal.returns-then-not-element_agrees
 returns-then-not-element_agrees c =
     let sized = c in
-    rw (eq-eqb _ 4101 sized.if-public-ne-PUBLIC_KEY_LENGTH.false, eq-eqb _ 4357 sized.if-secret-ne-SECRET_KEY_LENGTH.false, sym c.element_agrees.ensures ∙ not-true _ c.if-not-element_agrees.true)
+    rw (eq-eqb _ 4101 sized.if-public-ne-PUBLIC_KEY_LENGTH.false, eq-eqb _ 4357 sized.if-secret-ne-SECRET_KEY_LENGTH.false, sym c.element_agrees.ensures ∙ c.if-not-element_agrees.true)
 
 pub returns : goal.returns
 returns c =
@@ -20,6 +20,6 @@ returns c =
     rw (
       eq-eqb _ 4101 sized.if-public-ne-PUBLIC_KEY_LENGTH.false,
       eq-eqb _ 4357 sized.if-secret-ne-SECRET_KEY_LENGTH.false,
-      sym element.element_agrees.ensures ∙ not-false _ c.if-not-element_agrees.false,
+      sym element.element_agrees.ensures ∙ c.if-not-element_agrees.false,
     )
     c.noise_agrees.ensures

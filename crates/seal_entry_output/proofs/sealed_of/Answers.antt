@@ -8,10 +8,10 @@ use Rattle.seal_entry_output.proofs.Printing.{answer_by_length, behind_key_lem}
 use Rattle.seal_entry_output.proofs.sealed_of.Goals as goal
 
 pub returns-then-not-is_input_length : goal.returns-then-not-is_input_length
-returns-then-not-is_input_length c = record { value = sym (answer_by_length _ (sym c.is_input_length.ensures ∙ not-true _ c.if-not-is_input_length.true)); sealed_after = refl }
+returns-then-not-is_input_length c = record { value = sym (answer_by_length _ (sym c.is_input_length.ensures ∙ c.if-not-is_input_length.true)); sealed_after = refl }
 
 pub seal_parts-requires : goal.seal_parts-requires
-seal_parts-requires c = behind_key_lem _ (sym c.is_input_length.ensures ∙ not-false _ c.if-not-is_input_length.false)
+seal_parts-requires c = behind_key_lem _ (sym c.is_input_length.ensures ∙ c.if-not-is_input_length.false)
 
 pub returns : goal.returns
 unfolding seal_out

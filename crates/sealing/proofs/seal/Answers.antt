@@ -19,14 +19,14 @@ returns-then-not-fits c =
     let noise = args.noise.now in
     let entry = args.entry.now in
     let old = args.out.now in
-    let misfit = seal-fits_by k noise entry (length old) c.is_public_length.ensures (not-true _ c.if-not-fits.true) in
+    let misfit = seal-fits_by k noise entry (length old) c.is_public_length.ensures (c.if-not-fits.true) in
     let answer = sym (ap (λ (b : Bool). unless b WrongLength (public_answer k)) misfit) in record { value = answer; out_after = ap (λ (a : Answer). on_done a (sealed_bytes k noise entry) old) answer }
 
 pub encapsulate_noise-p-requires : goal.encapsulate_noise-p-requires
 encapsulate_noise-p-requires c =
     let args = c.args in
     let fits =
-    seal-fits_by args.key.now args.noise.now args.entry.now (length args.out.now) c.is_public_length.ensures (not-false _ c.if-not-fits.false) in
+    seal-fits_by args.key.now args.noise.now args.entry.now (length args.out.now) c.is_public_length.ensures (c.if-not-fits.false) in
     let (key, noise, entry, room) =
     (seal-fits args.key.now args.noise.now args.entry.now (length args.out.now)).0 fits in
     (key, noise)

@@ -28,9 +28,11 @@ returns-in-Done c =
     let (pair, codes, matches) = shared.read_shared-read.ensures.words_value in
     let spectra = shared.read_shared-read.ensures.a_value in
     let (stored, found, inverse) = unit.read_unit-unit.ensures in
-    read_as k (is_expanded k) refl passed (content_joined k (is_expanded k) pair stored c.and_then-words.ensures codes found matches c.content_answer.ensures) spectra inverse
+    let all = read_as k (is_expanded k) refl passed (content_joined k (is_expanded k) pair stored c.and_then-words.ensures codes found matches c.content_answer.ensures) spectra inverse in
+    record { answer_value = all.0; a_value = all.1 }
 
 pub returns : goal.returns
 returns c =
     let read = c in
-    read_nothing read.args.bytes.now read.check_layout-layout.ensures c.in_default.is
+    let all = read_nothing read.args.bytes.now read.check_layout-layout.ensures c.in_default.is in
+    record { answer_value = all.0; a_value = all.1 }

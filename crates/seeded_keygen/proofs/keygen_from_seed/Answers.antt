@@ -27,7 +27,7 @@ returns-then-not-fits c =
     let public = args.public.now in
     let secret = args.secret.now in
     let misfit : eqb (length seed) 32 && eqb (length s) 512 && eqb (length e) 512 && eqb (length public) 2085 && eqb (length secret) 4357 ≡ false =
-    not-true _ c.if-not-fits.true in
+    c.if-not-fits.true in
     let answer = sym (ap (λ (b : Bool). unless b WrongLength (generated_answer (seed_stream seed) s e)) misfit) in record { value = answer; public_after = ap (λ (a : Answer). on_done a (new_seeded_key seed s e) public) answer; secret_after = ap (λ (a : Answer). on_done a (new_secret_key (seed_stream seed) s e) secret) answer }
 
 pub write_seeded_key-requires : goal.write_seeded_key-requires

@@ -12,11 +12,6 @@ use Rattle.shake.specs.Shake.{padded}
 use Rattle.shake.proofs.Blocks.{start_fits, last_place, rest-fits, block_inside, block_end}
 use Rattle.shake.proofs.block_words.Goals as goal
 
--- block k lies within the message
-fits : (c : goal.Then-input-at) →
-    c.args.rate * c.args.k + c.args.rate ≤ length c.args.input.now
-fits c = omega (arith, start_fits _ _ _ c.requires.1, c.if-input-at.true)
-
 pub overflow_mul-at : goal.overflow_mul-at
 overflow_mul-at c = omega (arith, start_fits _ _ _ c.requires.1)
 
@@ -24,28 +19,38 @@ pub overflow_sub-input : goal.overflow_sub-input
 overflow_sub-input c = start_fits _ _ _ c.requires.1
 
 pub overflow_add-at : goal.overflow_add-at
-overflow_add-at c = omega (arith, fits c)
+overflow_add-at c =
+    let fits : c.args.rate * c.args.k + c.args.rate ≤ length c.args.input.now =
+    omega (arith, start_fits _ _ _ c.requires.1, c.if-input-at.true) in
+    omega (arith, fits)
 
 pub slice_bounds-words-end : goal.slice_bounds-words-end
-slice_bounds-words-end c = fits c
+slice_bounds-words-end c =
+    let fits : c.args.rate * c.args.k + c.args.rate ≤ length c.args.input.now =
+    omega (arith, start_fits _ _ _ c.requires.1, c.if-input-at.true) in
+    fits
 
 pub words-requires : goal.words-requires
 words-requires c =
+    let fits : c.args.rate * c.args.k + c.args.rate ≤ length c.args.input.now =
+    omega (arith, start_fits _ _ _ c.requires.1, c.if-input-at.true) in
     let start = c in
     let r = start.args.rate in
     let at = r * start.args.k in
     let size : at + r - at ≡ r = omega arith in
-    rw (length_part at (at + r) start.args.input.now (fits (goal.at.words-requires c).Then-input-at), size) start.requires.0.lanes
+    rw (length_part at (at + r) start.args.input.now fits, size) start.requires.0.lanes
 
 pub returns-then-input-at : goal.returns-then-input-at
 returns-then-input-at c =
+    let fits : c.args.rate * c.args.k + c.args.rate ≤ length c.args.input.now =
+    omega (arith, start_fits _ _ _ c.requires.1, c.if-input-at.true) in
     let start = c in
     let r = start.args.rate in
     let m = start.args.input.now in
     let at = r * start.args.k in
     let size : at + r - at ≡ r = omega arith in
     let inside : take (at + r - at) (drop at m) ≡ block r start.args.k (padded r m) =
-    rw size (sym (block_inside r start.requires.0.some m start.args.k (fits (goal.at.returns-then-input-at c).Then-input-at))) in
+    rw size (sym (block_inside r start.requires.0.some m start.args.k fits)) in
     c.words.ensures ∙ ap (λ (b : List ℕ). table 25 (word b)) inside
 
 pub slice_bounds-last_block-count : goal.slice_bounds-last_block-count
