@@ -27,7 +27,7 @@ returns c =
     let read = noise in
     let a = read.uniform-u.ensures.1 in
     let s = noise.ternary-secret.ensures in
-    let b = made.generate-g.ensures.answer_value ∙ ap₃ key_element a s noise.ternary-noise.ensures in
+    let b = made.generate-g.ensures.0 ∙ ap₃ key_element a s noise.ternary-noise.ensures in
     let enough = noise.unless-enough.ensures ∙ ap (λ (i : ℕ). unless (eqb i 1024) StreamExhausted Done) read.uniform-u.ensures.0 in
     let invertible = c.unless-invertible.ensures
-    ∙ ap (λ (x : Bool). unless x NotInvertible Done) (made.generate-g.ensures.1 ∙ ap (λ (x : List ℕ). decide (is_invertible x)) (sym made.generate-g.ensures.answer_value ∙ b)) in record { answer_value = c.and_then.ensures ∙ ap₂ and_then enough invertible; a_value = (a, b); s_value = s }
+    ∙ ap (λ (x : Bool). unless x NotInvertible Done) (made.generate-g.ensures.1 ∙ ap (λ (x : List ℕ). decide (is_invertible x)) (sym made.generate-g.ensures.0 ∙ b)) in record { answer_value = c.and_then.ensures ∙ ap₂ and_then enough invertible; a_value = (a, b); s_value = s }
