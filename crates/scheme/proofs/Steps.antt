@@ -12,7 +12,7 @@ use Rattle.ring.specs.Ring.{n, fifth, sum, difference, multiple, product}
 use Rattle.ring.proofs.RingLaws.{sum-element, difference-element, multiple-element, sum_swapped}
 use Rattle.ring.proofs.Transforms.{product_by-spectra, left_through, right_through}
 use Rattle.ring.proofs.Spectra.{difference-reduced, coefficients_through, spectrum_through, coefficients_of-sum, coefficients_of-difference, coefficients_of-multiple}
-use Rattle.scheme.specs.Scheme.{Triple, Outcome, found, failed, key_error, masked, summed, phase, core, decapsulation, recovered, recovers, without_dummy, is_ternary, judged, step2}
+use Rattle.scheme.specs.Scheme.{Triple, found, failed, key_error, masked, summed, phase, core, decapsulation, recovered, recovers, without_dummy, is_ternary, judged, step2}
 
 -- triples are known by their parts
 pub triple-same : {t u : Triple} → t.r ≡ u.r → t.e1 ≡ u.e1 → t.e2 ≡ u.e2 → t ≡ u
