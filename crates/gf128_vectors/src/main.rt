@@ -1,9 +1,12 @@
+#![tactic(auto)]
 // Works through a file of example products of the tag's field and prints a line: how many cases agreed and how many differed, or what is
 // wrong with the file.
 ghost use Rattle.std.specs.Prelude.{◌≡◌, true};
 ghost use Rattle.vectors.specs.Answers.{report};
 ghost use Rattle.gf128_vectors.specs.Cases.{is_case, agrees, verdict};
 
+use std::io;
+use std::rt::Files;
 use vectors::{Report, Verdict};
 
 fn agrees(text: &[u8]) -> bool
@@ -39,13 +42,13 @@ fn judge_cases(text: &[u8]) -> Report
     report
 }
 
-fn check_file(name: &[u8]) {
+fn check_file(rt: &(impl Files + Print), name: &[u8]) -> io::Result<()> {
     let mut buffer = vectors::file_buffer();
-    let read = vectors::read_file(name, &mut buffer);
+    let read = vectors::read_file(rt, name, &mut buffer);
     let report = judge_cases(vectors::read_bytes(read, &buffer));
-    report_line::print(name, read, report);
+    report_line::print(rt, name, read, report)
 }
 
-fn main() {
-    check_file(b"example_field_products.bin");
+fn main(rt: HostRuntime) -> io::Result<()> {
+    check_file(&rt, b"example_field_products.bin")
 }

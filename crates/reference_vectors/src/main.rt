@@ -1,3 +1,4 @@
+#![tactic(auto)]
 // Works through the reference vectors: files of cases of each public call and of the desk program, with what code by other hands answered. It prints a line for
 // each file: how many cases agreed and how many differed, or what is wrong with the file. The files of example products, inverses and
 // remainders are worked through by ring_vectors, that of products in the tag's field by gf128_vectors.
@@ -8,6 +9,8 @@ ghost use Rattle.reference_vectors.specs.Cases.{residue_of, noise_agrees, line_a
 
 use call_cases::Call;
 use key_cases::Source;
+use std::io;
+use std::rt::Files;
 use vectors::{Report, Verdict};
 
 // What the cases of a file are of.
@@ -119,60 +122,62 @@ fn judge_cases(kind: Kind, text: &[u8]) -> Report
 
 // ---- files
 
-fn check_file(kind: Kind, name: &[u8]) {
+fn check_file(rt: &(impl Files + Print), kind: Kind, name: &[u8]) -> io::Result<()> {
     let mut buffer = vectors::file_buffer();
-    let read = vectors::read_file(name, &mut buffer);
+    let read = vectors::read_file(rt, name, &mut buffer);
     let report = judge_cases(kind, vectors::read_bytes(read, &buffer));
-    report_line::print(name, read, report);
+    report_line::print(rt, name, read, report)
 }
 
-fn check_key_files() {
-    check_file(Kind::Keygen(Source::Stream), b"keygen.bin");
-    check_file(Kind::Keygen(Source::Seed), b"keygen_from_seed.bin");
-    check_file(Kind::CheckSecretKey, b"check_secret_key.bin");
+fn check_key_files(rt: &(impl Files + Print)) -> io::Result<()> {
+    check_file(rt, Kind::Keygen(Source::Stream), b"keygen.bin")?;
+    check_file(rt, Kind::Keygen(Source::Seed), b"keygen_from_seed.bin")?;
+    check_file(rt, Kind::CheckSecretKey, b"check_secret_key.bin")?;
     check_file(
+        rt,
         Kind::Writing(Call::ExpandSecretKey),
         b"expand_secret_key.bin",
-    );
+    )?;
     check_file(
+        rt,
         Kind::Writing(Call::CompactSecretKey),
         b"compact_secret_key.bin",
-    );
+    )
 }
 
-fn check_call_files() {
-    check_file(Kind::Writing(Call::Encapsulate), b"encapsulate.bin");
-    check_file(Kind::Writing(Call::Decapsulate), b"decapsulate.bin");
-    check_file(Kind::Writing(Call::Seal), b"seal.bin");
-    check_file(Kind::Writing(Call::Open), b"open.bin");
+fn check_call_files(rt: &(impl Files + Print)) -> io::Result<()> {
+    check_file(rt, Kind::Writing(Call::Encapsulate), b"encapsulate.bin")?;
+    check_file(rt, Kind::Writing(Call::Decapsulate), b"decapsulate.bin")?;
+    check_file(rt, Kind::Writing(Call::Seal), b"seal.bin")?;
+    check_file(rt, Kind::Writing(Call::Open), b"open.bin")?;
     // Entries that were sealed before the noise was read as it is now.
-    check_file(Kind::Writing(Call::Open), b"open_sealed_before.bin");
-    check_file(Kind::Writing(Call::Shake128), b"shake128.bin");
-    check_file(Kind::Writing(Call::Shake256), b"shake256.bin");
+    check_file(rt, Kind::Writing(Call::Open), b"open_sealed_before.bin")?;
+    check_file(rt, Kind::Writing(Call::Shake128), b"shake128.bin")?;
+    check_file(rt, Kind::Writing(Call::Shake256), b"shake256.bin")
 }
 
-fn check_batch_files() {
-    check_file(Kind::Writing(Call::SealBatch), b"seal_batch.bin");
-    check_file(Kind::OpenBatch, b"open_batch.bin");
+fn check_batch_files(rt: &(impl Files + Print)) -> io::Result<()> {
+    check_file(rt, Kind::Writing(Call::SealBatch), b"seal_batch.bin")?;
+    check_file(rt, Kind::OpenBatch, b"open_batch.bin")
 }
 
-fn check_service_file() {
-    check_file(Kind::OpenWithMargin, b"open_with_margin.bin");
+fn check_service_file(rt: &(impl Files + Print)) -> io::Result<()> {
+    check_file(rt, Kind::OpenWithMargin, b"open_with_margin.bin")
 }
 
-fn check_desk_file() {
-    check_file(Kind::Desk, b"desk.bin");
+fn check_desk_file(rt: &(impl Files + Print)) -> io::Result<()> {
+    check_file(rt, Kind::Desk, b"desk.bin")
 }
 
-fn check_example_files() {
-    check_file(Kind::Noise, b"example_noise.bin");
+fn check_example_files(rt: &(impl Files + Print)) -> io::Result<()> {
+    check_file(rt, Kind::Noise, b"example_noise.bin")
 }
 
-fn main() {
-    check_key_files();
-    check_call_files();
-    check_batch_files();
-    check_service_file();
-    check_desk_file();
-    check_example_files();
+fn main(rt: HostRuntime) -> io::Result<()> {
+    check_key_files(&rt)?;
+    check_call_files(&rt)?;
+    check_batch_files(&rt)?;
+    check_service_file(&rt)?;
+    check_desk_file(&rt)?;
+    check_example_files(&rt)
 }

@@ -1,3 +1,4 @@
+#![tactic(auto)]
 // The line that a program prints on a file of test vectors: the file's name, and how many cases agreed and how many differed, or what is
 // wrong with the file.
 ghost use Rattle.std.specs.Prelude.{◌≡◌, ◌≤◌, min, length};
@@ -5,7 +6,7 @@ ghost use Rattle.lists.specs.Table.{zeros};
 ghost use Rattle.text.specs.Text.{written};
 ghost use Rattle.report_line.specs.Line.{put_at, end_at, malformed_text, counts_text, report_text, file_text, file_line};
 
-use libc::STDOUT_FILENO;
+use std::io;
 use vectors::{Contents, Report};
 
 // ---- texts put into a buffer at a place, as far as there is room. Each function says where its text ends.
@@ -84,9 +85,9 @@ pub fn line(name: &[u8], read: Contents, report: Report) -> Text
 }
 
 // Prints the line of a file. What stands on the standard output no contract can say.
-pub fn print(name: &[u8], read: Contents, report: Report) {
+pub fn print(out: &impl Print, name: &[u8], read: Contents, report: Report) -> io::Result<()> {
     let text = line(name, read, report);
     let bytes = text.bytes;
     let length = text.length;
-    io::write_all(STDOUT_FILENO, &bytes[0..length]);
+    out.write_all(&bytes[0..length])
 }

@@ -1,3 +1,4 @@
+#![tactic(auto)]
 // Prints the first 32 bytes of SHAKE256 of standard input in hexadecimal, as `openssl dgst -shake256` does. The input is held in
 // memory whole: it has at most 1,048,576 bytes.
 ghost use Rattle.std.specs.Prelude.{◌≡◌, ◌≤◌, length};
@@ -5,7 +6,7 @@ ghost use Rattle.lists.specs.Table.{zeros};
 ghost use Rattle.hexadecimal.specs.Hex.{written};
 ghost use Rattle.shake256sum.specs.Line.{line_of, too_long, standard_output, standard_error};
 
-use libc::{STDERR_FILENO, STDIN_FILENO, STDOUT_FILENO};
+use std::io;
 
 const MOST: usize = 1048576;
 
@@ -63,14 +64,14 @@ fn input_buffer() -> [u8; 1048577]
     [0; 1048577]
 }
 
-fn main() {
+fn main(rt: HostRuntime) -> io::Result<()> {
     let mut input = input_buffer();
-    let n = io::read_full(STDIN_FILENO, &mut input);
+    let n = reading::read_full(&mut rt.stdin(), &mut input)?;
     let printed = shake256sum(&input[..n]);
     let line = printed.line;
     let shown = printed.shown;
     let error = printed.error;
     let told = printed.told;
-    io::write_all(STDOUT_FILENO, &line[0..shown]);
-    io::write_all(STDERR_FILENO, &error[0..told]);
+    rt.write_all(&line[0..shown])?;
+    rt.stderr().write_all(&error[0..told])
 }

@@ -1,8 +1,13 @@
+#![tactic(auto)]
 // What programs over files of test vectors share: the fields of a file, the verdict on a case, and reading a file whole.
 ghost use Rattle.std.specs.Prelude.{◌≡◌, ◌+◌, ◌*◌, ◌≤◌, ◌<◌, min, length, get_or, replicate};
 ghost use Rattle.lists.specs.Table.{zeros};
 ghost use Rattle.vectors.specs.Fields.{word32, end_from, start, field, has_field, is_sized, after_case};
 ghost use Rattle.vectors.specs.Answers.{is_same, verdict_of, Within, bytes_read, one_more, counted};
+
+use std::fs;
+use std::io::Read;
+use std::rt::Files;
 
 // ---- fields
 
@@ -210,32 +215,31 @@ pub enum Contents {
 }
 
 // Reads what is left of a file. One more read tells whether the file goes on, or cannot be read.
-fn read_open(fd: i32, buffer: &mut [u8]) -> Contents
+fn read_open<R: Read>(file: &mut R, buffer: &mut [u8]) -> Contents
     ensures { Within result buffer.new }
 {
-    let n = io::read_full(fd, buffer);
-    let mut more = [0u8; 1];
-    let got = libc::read(fd, &mut more);
-    if got < 0 {
+    let Ok(n) = reading::read_full(file, buffer) else {
         return Contents::Missing;
+    };
+    let mut more = [0u8; 1];
+    match file.read(&mut more) {
+        Ok(0) => Contents::Bytes(n),
+        Ok(_) => Contents::TooLong,
+        Err(_) => Contents::Missing,
     }
-    if got > 0 {
-        return Contents::TooLong;
-    }
-    Contents::Bytes(n)
 }
 
-// Reads a whole file into the front of a buffer.
-pub fn read_file(name: &[u8], buffer: &mut [u8]) -> Contents
+// Reads a whole file into the front of a buffer. A file that cannot be opened or read is missing, and so is one whose name is not UTF-8.
+pub fn read_file(files: &impl Files, name: &[u8], buffer: &mut [u8]) -> Contents
     ensures { Within result buffer.new }
 {
-    let fd = os::open_read(name);
-    if fd < 0 {
+    let Ok(name) = std::str::from_utf8(name) else {
         return Contents::Missing;
+    };
+    match fs::open(files, name) {
+        Ok(mut file) => read_open(&mut file, buffer),
+        Err(_) => Contents::Missing,
     }
-    let r = read_open(fd, buffer);
-    libc::close(fd);
-    r
 }
 
 // The bytes of a file that was read into the front of a buffer; none where it was not.

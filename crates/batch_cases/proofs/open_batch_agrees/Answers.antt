@@ -17,6 +17,6 @@ returns c =
     let z = inputs.field-3.ensures in
     let out = inputs.fill.ensures in
     let did = ran.open_batch-opened.ensures in
-    let answer-is = did.0 ∙ ap₄ (λ (x y z out : List ℕ). open_batch_answer x y z (length out)) x y z out in
-    let count-is = did.1.0 ∙ ap₄ (λ (x y z out : List ℕ). open_batch_count x y z (length out) 0) x y z out in
-    let out-is = did.1.1.0 ∙ ap₄ open_batch_out x y z out in record { value = c.opened_agrees.ensures ∙ ap₄ opened_agrees refl answer-is count-is out-is; out_after = out-is }
+    let answer-is = did.answer_value ∙ ap₄ (λ (x y z out : List ℕ). open_batch_answer x y z (length out)) x y z out in
+    let count-is = did.count_value ∙ ap₄ (λ (x y z out : List ℕ). open_batch_count x y z (length out) 0) x y z out in
+    let out-is = did.out_after ∙ ap₄ open_batch_out x y z out in record { value = c.opened_agrees.ensures ∙ ap₄ opened_agrees refl answer-is count-is out-is; out_after = out-is }

@@ -14,7 +14,7 @@ returns-then-not-fits c =
     let batch = args.batch.now in
     let noise = args.noise.now in
     let old = args.out.now in
-    let answer = lengths_refused k batch noise (length old) (not-true _ c.if-not-fits.true) in
+    let answer = lengths_refused k batch noise (length old) (c.if-not-fits.true) in
     let count = count_by k batch noise (length old) 0 answer in
     let kept = out_by k batch noise old answer in record { answer_value = answer; count_value = count; out_after = kept; open_batch_exact = open-batch_promise k batch noise old 0 (ap number answer) kept count }
 
@@ -23,7 +23,7 @@ open_records-requires c =
     let left = c in
     let args = left.args in
     let (_, size, noise, room) =
-    (opening-fits args.key.now args.batch.now args.noise.now (length args.out.now)).0 (not-false _ left.if-not-fits.false) in
+    (opening-fits args.key.now args.batch.now args.noise.now (length args.out.now)).0 left.if-not-fits.false in
     (size, noise, room)
 
 pub returns : goal.returns
@@ -35,8 +35,10 @@ returns c =
     let batch = args.batch.now in
     let noise = args.noise.now in
     let old = args.out.now in
-    let same = checks_decide k batch noise (length old) (not-false _ left.if-not-fits.false) in
-    let (checked, (counted, written)) = opened.open_records.ensures in
+    let same = checks_decide k batch noise (length old) left.if-not-fits.false in
+    let checked = opened.open_records.ensures.answer_value in
+    let counted = opened.open_records.ensures.count_value in
+    let written = opened.open_records.ensures.out_after in
     let answer = checked ∙ same in
     let count = counted ∙ count_by k batch noise (length old) 0 same in
     let out = written ∙ out_by k batch noise old same in record { answer_value = answer; count_value = count; out_after = out; open_batch_exact = open-batch_promise k batch noise old 0 (ap number answer) out count }

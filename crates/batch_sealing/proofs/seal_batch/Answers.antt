@@ -14,7 +14,7 @@ pub returns-then-not-is_count : goal.returns-then-not-is_count
 returns-then-not-is_count c =
     let whole = c in
     let args = whole.args in
-    let count = sym c.is_count.ensures ∙ not-true _ c.if-not-is_count.true in
+    let count = sym c.is_count.ensures ∙ c.if-not-is_count.true in
     let answer =
     count_refused args.key.now args.noise.now args.blocks.now (length args.out.now) whole.if-size-ne0.false count in record { value = answer; out_after = kept args.key.now args.noise.now args.blocks.now args.out.now answer }
 
@@ -23,9 +23,9 @@ returns-then-not-fits c =
     let counted = c in
     let whole = counted in
     let args = whole.args in
-    let count = sym counted.is_count.ensures ∙ not-false _ counted.if-not-is_count.false in
+    let count = sym counted.is_count.ensures ∙ counted.if-not-is_count.false in
     let misfit =
-    fits_by args.key.now args.noise.now args.blocks.now (length args.out.now) c.is_public_length.ensures (not-true _ c.if-not-fits.true) in
+    fits_by args.key.now args.noise.now args.blocks.now (length args.out.now) c.is_public_length.ensures (c.if-not-fits.true) in
     let answer =
     lengths_refused args.key.now args.noise.now args.blocks.now (length args.out.now) whole.if-size-ne0.false count misfit in record { value = answer; out_after = kept args.key.now args.noise.now args.blocks.now args.out.now answer }
 
@@ -34,7 +34,7 @@ encapsulate_noise-p-requires c =
     let args = c.args in
     let (key, noise, room) =
     (sealing-fits args.key.now args.noise.now args.blocks.now (length args.out.now)).0
-    (fits_by args.key.now args.noise.now args.blocks.now (length args.out.now) c.is_public_length.ensures (not-false _ c.if-not-fits.false)) in
+    (fits_by args.key.now args.noise.now args.blocks.now (length args.out.now) c.is_public_length.ensures (c.if-not-fits.false)) in
     (key, noise)
 
 pub write_sealed-requires : goal.write_sealed-requires
@@ -44,7 +44,7 @@ write_sealed-requires c =
     let args = whole.args in
     let (key, noise, room) =
     (sealing-fits args.key.now args.noise.now args.blocks.now (length args.out.now)).0
-    (fits_by args.key.now args.noise.now args.blocks.now (length args.out.now) left.is_public_length.ensures (not-false _ left.if-not-fits.false)) in
+    (fits_by args.key.now args.noise.now args.blocks.now (length args.out.now) left.is_public_length.ensures left.if-not-fits.false) in
     (whole.if-size-ne0.false, room)
 
 pub returns : goal.returns
@@ -54,9 +54,11 @@ returns c =
     let counted = left in
     let whole = counted in
     let args = whole.args in
-    let count = sym counted.is_count.ensures ∙ not-false _ counted.if-not-is_count.false in
+    let count = sym counted.is_count.ensures ∙ counted.if-not-is_count.false in
     let fits =
-    fits_by args.key.now args.noise.now args.blocks.now (length args.out.now) left.is_public_length.ensures (not-false _ left.if-not-fits.false) in
-    let (checked, (triple, (c1, c2))) = made.encapsulate_noise-p.ensures in
+    fits_by args.key.now args.noise.now args.blocks.now (length args.out.now) left.is_public_length.ensures left.if-not-fits.false in
+    let checked = made.encapsulate_noise-p.ensures.answer_value in
+    let triple = made.encapsulate_noise-p.ensures.triple_value in
+    let (c1, c2) = made.encapsulate_noise-p.ensures.c1_value in
     let answer =
     checked ∙ key_decides args.key.now args.noise.now args.blocks.now (length args.out.now) whole.if-size-ne0.false count fits in record { value = answer; out_after = c.write_sealed.ensures ∙ written args.key.now args.noise.now args.blocks.now args.out.now answer triple c1 c2 }

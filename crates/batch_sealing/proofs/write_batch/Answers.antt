@@ -29,7 +29,8 @@ returns c =
     let front = record_bytes sealed_entry_mark 2 args.c1 args.c2 ++ count_bytes (entries blocks) in
     let body = body_of t.r t.e1 t.e2 blocks in
     let l = counted.count_block-l.ensures in
-    let (shown, tagged) = put.protect-tag.ensures in
+    let shown = put.protect-tag.ensures.body_after in
+    let tagged = put.protect-tag.ensures.value in
     let length_front : length front ≡ 4103 = omega (arith, length-append (record_bytes sealed_entry_mark 2 args.c1 args.c2) (count_bytes (entries blocks)), length-record_bytes sealed_entry_mark 2 args.c1 args.c2) in
     let one = first.write_front.ensures ∙ ap (λ (x : List ℕ). (record_bytes sealed_entry_mark 2 args.c1 args.c2 ++ take 2 x) ++ drop 4103 old) l in
     let two = put-plain front body old _ 4103 (4103 + size - 4103) {e = 4103 + size} one length_front (omega arith) shown in

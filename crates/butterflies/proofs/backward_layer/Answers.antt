@@ -17,29 +17,22 @@ use Rattle.butterflies.proofs.Layers.{unzipped_layer_is, halves-size}
 use borrow.Author.Rules.{rules}
 use Rattle.butterflies.proofs.backward_layer.Goals as goal
 
--- the factor that is read
-factor : (c : goal.In-loop-j)
-    → get_or c.args.w.now (512 * c.args.k + c.loop-j.j) 0
-    ≡ montgomery_form (backward_factor c.args.k c.loop-j.j)
-factor c =
-    let start = c in
-    ap (λ (l : List ℕ). get_or l (512 * start.args.k + c.loop-j.j) 0) start.requires.w_value
-    ∙ backward-at start.args.k c.loop-j.j start.requires.r_len.3 (search rules)
-
--- an entry that is read is below q
-entry : (c : goal.In-loop-j) (i : ℕ) → get_or c.args.p.now i 0 < q
-entry c i =
-    let start = c in
-    below_at q q-positive start.args.p.now start.requires.r_len.2 i
-
 pub loop-j-init : goal.loop-j-init
 loop-j-init c = filled-halves_none 512 _ _ _ (length-table 512 _) (length-table 512 _) c.requires.r_len.0
 
 pub sub_reduced-difference-requires : goal.sub_reduced-difference-requires
-sub_reduced-difference-requires c = (entry (goal.at.sub_reduced-difference-requires c).In-loop-j _, le_of_lt (entry (goal.at.sub_reduced-difference-requires c).In-loop-j _))
+sub_reduced-difference-requires c =
+    let entry : (i : ℕ) → get_or c.args.p.now i 0 < q =
+    λ i. let start = c in
+    below_at q q-positive start.args.p.now start.requires.r_len.2 i in
+    (entry _, le_of_lt (entry _))
 
 pub add_reduced-requires : goal.add_reduced-requires
-add_reduced-requires c = (entry (goal.at.add_reduced-requires c).In-loop-j _, entry (goal.at.add_reduced-requires c).In-loop-j _)
+add_reduced-requires c =
+    let entry : (i : ℕ) → get_or c.args.p.now i 0 < q =
+    λ i. let start = c in
+    below_at q q-positive start.args.p.now start.requires.r_len.2 i in
+    (entry _, entry _)
 
 pub bounds-r-j : goal.bounds-r-j
 bounds-r-j c = let size = halves-size c.loop-j.invariant in search rules
@@ -50,20 +43,29 @@ bounds-w-k c =
     omega (arith, ap length start.requires.w_value ∙ length-backward_factors, start.requires.r_len.3)
 
 pub montgomery_product-requires : goal.montgomery_product-requires
-montgomery_product-requires c = omega (arith, factor (goal.at.montgomery_product-requires c).In-loop-j)
+montgomery_product-requires c =
+    let factor : get_or c.args.w.now (512 * c.args.k + c.loop-j.j) 0 ≡ montgomery_form (backward_factor c.args.k c.loop-j.j) =
+    let start = c in
+    ap (λ (l : List ℕ). get_or l (512 * start.args.k + c.loop-j.j) 0) start.requires.w_value
+    ∙ backward-at start.args.k c.loop-j.j start.requires.r_len.3 (search rules) in
+    omega (arith, factor)
 
 pub bounds-r-j-in-loop-j : goal.bounds-r-j-in-loop-j
 bounds-r-j-in-loop-j c = rw length-set (omega (arith, halves-size c.loop-j.invariant))
 
 pub loop-j-preserved : goal.loop-j-preserved
 loop-j-preserved c =
+    let factor : get_or c.args.w.now (512 * c.args.k + c.loop-j.j) 0 ≡ montgomery_form (backward_factor c.args.k c.loop-j.j) =
+    let start = c in
+    ap (λ (l : List ℕ). get_or l (512 * start.args.k + c.loop-j.j) 0) start.requires.w_value
+    ∙ backward-at start.args.k c.loop-j.j start.requires.r_len.3 (search rules) in
     let inside = c in
     let at = inside in
     let k = at.args.k in
     let j = at.loop-j.j in
     filled-halves_more 0 at.loop-j.invariant (search rules)
     (c.add_reduced.ensures ∙ sym (get_or-table 512 _ j 0 (search rules)))
-    (c.montgomery_product.ensures ∙ by-power _ _ _ (factor inside)
+    (c.montgomery_product.ensures ∙ by-power _ _ _ (factor)
     ∙ ap (mul_mod q (backward_factor k j)) c.sub_reduced-difference.ensures ∙ sym (get_or-table 512 _ j 0 (search rules)))
 
 pub shape_of-r : goal.shape_of-r

@@ -15,21 +15,6 @@ use Rattle.butterflies.proofs.Layers.{length-forward, forward_even, forward_odd}
 use borrow.Author.Rules.{rules}
 use Rattle.butterflies.proofs.forward_layer.Goals as goal
 
--- the factor that is read
-factor : (c : goal.In-loop-j)
-    → get_or c.args.w.now (512 * c.args.k + c.loop-j.j) 0
-    ≡ montgomery_form (forward_factor c.args.k c.loop-j.j)
-factor c =
-    let start = c in
-    ap (λ (l : List ℕ). get_or l (512 * start.args.k + c.loop-j.j) 0) start.requires.w_value
-    ∙ forward-at start.args.k c.loop-j.j start.requires.r_len.3 (search rules)
-
--- an entry that is read is below q
-entry : (c : goal.In-loop-j) (i : ℕ) → get_or c.args.a.now i 0 < q
-entry c i =
-    let start = c in
-    below_at q q-positive start.args.a.now start.requires.r_len.2 i
-
 pub loop-j-init : goal.loop-j-init
 loop-j-init c = filled_none _ _ (length-forward q 512 _ _) c.requires.r_len.0
 
@@ -39,26 +24,43 @@ bounds-w-k c =
     omega (arith, ap length start.requires.w_value ∙ length-forward_factors, start.requires.r_len.3)
 
 pub montgomery_product-product-requires : goal.montgomery_product-product-requires
-montgomery_product-product-requires c = omega (arith, factor (goal.at.montgomery_product-product-requires c).In-loop-j)
+montgomery_product-product-requires c =
+    let factor : get_or c.args.w.now (512 * c.args.k + c.loop-j.j) 0 ≡ montgomery_form (forward_factor c.args.k c.loop-j.j) =
+    let start = c in
+    ap (λ (l : List ℕ). get_or l (512 * start.args.k + c.loop-j.j) 0) start.requires.w_value
+    ∙ forward-at start.args.k c.loop-j.j start.requires.r_len.3 (search rules) in
+    omega (arith, factor)
 
 pub add_reduced-sum-requires : goal.add_reduced-sum-requires
-add_reduced-sum-requires c = (entry (goal.at.add_reduced-sum-requires c).In-loop-j _, omega (arith, c.montgomery_product-product.ensures))
+add_reduced-sum-requires c =
+    let entry : (i : ℕ) → get_or c.args.a.now i 0 < q =
+    λ i. let start = c in
+    below_at q q-positive start.args.a.now start.requires.r_len.2 i in
+    (entry _, omega (arith, c.montgomery_product-product.ensures))
 
 pub sub_reduced-difference-requires : goal.sub_reduced-difference-requires
-sub_reduced-difference-requires c = (entry (goal.at.sub_reduced-difference-requires c).In-loop-j _, omega (arith, c.montgomery_product-product.ensures))
+sub_reduced-difference-requires c =
+    let entry : (i : ℕ) → get_or c.args.a.now i 0 < q =
+    λ i. let start = c in
+    below_at q q-positive start.args.a.now start.requires.r_len.2 i in
+    (entry _, omega (arith, c.montgomery_product-product.ensures))
 
 pub bounds-r-j-in-loop-j : goal.bounds-r-j-in-loop-j
 bounds-r-j-in-loop-j c = rw length-set (omega (arith, c.loop-j.invariant.size))
 
 pub loop-j-preserved : goal.loop-j-preserved
 loop-j-preserved c =
+    let factor : get_or c.args.w.now (512 * c.args.k + c.loop-j.j) 0 ≡ montgomery_form (forward_factor c.args.k c.loop-j.j) =
+    let start = c in
+    ap (λ (l : List ℕ). get_or l (512 * start.args.k + c.loop-j.j) 0) start.requires.w_value
+    ∙ forward-at start.args.k c.loop-j.j start.requires.r_len.3 (search rules) in
     let inside = c in
     let at = inside in
     let start = at in
     let k = start.args.k in
     let j = at.loop-j.j in
     let a = start.args.a.now in
-    let times = c.montgomery_product-product.ensures ∙ by-power _ (get_or a (512 + j) 0) _ (factor inside) in
+    let times = c.montgomery_product-product.ensures ∙ by-power _ (get_or a (512 + j) 0) _ (factor) in
     let next : 2 * j + 1 + 1 ≡ 2 * (j + 1) = omega arith in
     subst (Filled 1024 _ _) next
     (filled_more 0

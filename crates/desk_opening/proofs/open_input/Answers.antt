@@ -15,5 +15,6 @@ unfolding desk_entry
 returns c =
     let start = c in
     let input = start.args.input.now in
-    let (says, entry) = c.open_parts.ensures in
+    let says = c.open_parts.ensures.answer_value in
+    let entry = c.open_parts.ensures.result_value in
     let answer = says ∙ sym (answer_by_length input (eq-eqb (length input) 10026 start.requires)) in record { answer_value = answer; result_value = entry ∙ ap (λ (a : Answer). on_done a (open_out (key_part input) (sealed_part input) (dummy_part input) (zeros block_length)) (zeros block_length)) answer }

@@ -6,11 +6,14 @@ returns-in-Done c =
     let told = c in
     let header = told in
     let args = header.args in
-    let (answer, (entry, _)) = (goal.at.returns-in-Done c).After-open-answer.«open».ensures in
-    opens_version_1 args.key.now args.sealed.now args.dummy.now header.check_header-header.ensures told.in-Done.is answer entry
+    let answer = (goal.at.returns-in-Done c).After-open-answer.«open».ensures.value in
+    let entry = (goal.at.returns-in-Done c).After-open-answer.«open».ensures.out_after in
+    let all = opens_version_1 args.key.now args.sealed.now args.dummy.now header.check_header-header.ensures told.in-Done.is answer entry in
+    record { answer_value = all.0; result_value = all.1 }
 
 pub returns : goal.returns
 returns c =
     let header = c in
     let args = header.args in
-    opens_no_other args.key.now args.sealed.now args.dummy.now header.check_header-header.ensures c.in_default.is
+    let all = opens_no_other args.key.now args.sealed.now args.dummy.now header.check_header-header.ensures c.in_default.is in
+    record { answer_value = all.0; result_value = all.1 }

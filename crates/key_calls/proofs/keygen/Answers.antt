@@ -26,20 +26,20 @@ returns-then-not-fits c =
     let public = args.public.now in
     let secret = args.secret.now in
     let misfit : eqb (length stream) 2688 && eqb (length s) 512 && eqb (length e) 512 && eqb (length public) 4101 && eqb (length secret) 4357 ≡ false =
-    not-true _ c.if-not-fits.true in
+    c.if-not-fits.true in
     let answer = sym (ap (λ (b : Bool). unless b WrongLength (generated_answer stream s e)) misfit) in record { value = answer; public_after = ap (λ (a : Answer). on_done a (new_public_key stream s e) public) answer; secret_after = ap (λ (a : Answer). on_done a (new_secret_key stream s e) secret) answer }
 
 pub write_public_key-requires : goal.write_public_key-requires
 write_public_key-requires c =
     let left = c in
     let args = left.args in
-    ((keygen-fits args.stream.now args.s.now args.e.now (length args.public.now) (length args.secret.now)).0 (not-false _ left.if-not-fits.false)).3
+    ((keygen-fits args.stream.now args.s.now args.e.now (length args.public.now) (length args.secret.now)).0 left.if-not-fits.false).3
 
 pub write_secret_key-requires : goal.write_secret_key-requires
 write_secret_key-requires c =
     let left = c in
     let args = left.args in
-    ((keygen-fits args.stream.now args.s.now args.e.now (length args.public.now) (length args.secret.now)).0 (not-false _ left.if-not-fits.false)).4
+    ((keygen-fits args.stream.now args.s.now args.e.now (length args.public.now) (length args.secret.now)).0 left.if-not-fits.false).4
 
 pub returns : goal.returns
 unfolding keygen_answer new_public_key new_secret_key keygen_public keygen_secret
@@ -53,8 +53,10 @@ returns c =
     let public = args.public.now in
     let secret = args.secret.now in
     let fits : eqb (length stream) 2688 && eqb (length s) 512 && eqb (length e) 512 && eqb (length public) 4101 && eqb (length secret) 4357 ≡ true =
-    not-false _ left.if-not-fits.false in
-    let (checked, ((a, b), t)) = made.generate-g.ensures in
+    left.if-not-fits.false in
+    let checked = made.generate-g.ensures.answer_value in
+    let (a, b) = made.generate-g.ensures.a_value in
+    let t = made.generate-g.ensures.s_value in
     let answer = checked ∙ sym (ap (λ (x : Bool). unless x WrongLength (generated_answer stream s e)) fits) in record { value = answer; public_after = c.write_public_key.ensures
             ∙ ap₂ (λ (x : Answer) (l : List ℕ). on_done x l public) answer (ap₂ (record_bytes public_key_mark 1) a b); secret_after = c.write_secret_key.ensures
             ∙ ap₂ (λ (x : Answer) (l : List ℕ). on_done x l secret) answer (ap₂ (λ (x y : List ℕ). x ++ y) (ap₂ (record_bytes secret_key_mark 1) a b) (ap ternary_bytes t)) }

@@ -19,6 +19,6 @@ returns c =
     let public = filled.fill.ensures in
     let secret = filled.fill-2.ensures in
     let answer-is =
-    made.generate-answer.ensures.0 ∙ ap₅ (λ (x y z public secret : List ℕ). generation_answer source x y z (length public) (length secret)) x y z public secret in
-    let public-is = made.generate-answer.ensures.1.0 ∙ ap₅ (generation_public source) x y z public secret in
-    let secret-is = made.generate-answer.ensures.1.1 ∙ ap₅ (generation_secret source) x y z public secret in record { value = c.keys_agree.ensures ∙ ap₄ keys_agree refl answer-is public-is secret-is; public_after = public-is; secret_after = secret-is }
+    made.generate-answer.ensures.value ∙ ap₅ (λ (x y z public secret : List ℕ). generation_answer source x y z (length public) (length secret)) x y z public secret in
+    let public-is = made.generate-answer.ensures.public_after ∙ ap₅ (generation_public source) x y z public secret in
+    let secret-is = made.generate-answer.ensures.secret_after ∙ ap₅ (generation_secret source) x y z public secret in record { value = c.keys_agree.ensures ∙ ap₄ keys_agree refl answer-is public-is secret-is; public_after = public-is; secret_after = secret-is }

@@ -7,4 +7,5 @@ pub returns : goal.returns
 unfolding version_answer
 returns c =
     let read = c in
-    let (checked, (a, b, s, inverse)) = read.read_secret_key-read.ensures in record { answer_value = c.and_then.ensures ∙ ap₂ and_then read.check_header-header.ensures checked; inverse_value = inverse }
+    let checked = read.read_secret_key-read.ensures.answer_value in
+    let (a, b, s, inverse) = read.read_secret_key-read.ensures.a_value in record { answer_value = c.and_then.ensures ∙ ap₂ and_then read.check_header-header.ensures checked; inverse_value = inverse }

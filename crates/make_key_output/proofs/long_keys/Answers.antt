@@ -15,7 +15,10 @@ returns c =
     let public = start.args.public.now in
     let secret = start.args.secret.now in
     let (size, (public-size, secret-size)) = start.requires in
-    let (answered, (new-public, new-secret)) = called.keygen.ensures in
+    let answered = called.keygen.ensures.value in
+    let new-public = called.keygen.ensures.public_after in
+    let new-secret = called.keygen.ensures.secret_after in
     -- compared by itself, so that other noise is seen at once
     let by-s = argument_is (λ (s : List ℕ). keygen_secret (part 0 2688 input) s (part 3200 512 input) public secret) _ (part 2688 512 input) new-secret refl in
-    of-stream input size public secret public-size secret-size answered new-public by-s
+    let all = of-stream input size public secret public-size secret-size answered new-public by-s in
+    record { value = all.0; public_after = all.1.0; secret_after = all.1.1 }

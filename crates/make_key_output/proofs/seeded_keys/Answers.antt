@@ -6,5 +6,8 @@ returns c =
     let called = c in
     let start = called in
     let (size, (public-size, secret-size)) = start.requires in
-    let (answered, (public, secret)) = called.keygen_from_seed.ensures in
-    of_seed start.args.input.now size start.args.public.now start.args.secret.now public-size secret-size answered public secret
+    let answered = called.keygen_from_seed.ensures.value in
+    let public = called.keygen_from_seed.ensures.public_after in
+    let secret = called.keygen_from_seed.ensures.secret_after in
+    let all = of_seed start.args.input.now size start.args.public.now start.args.secret.now public-size secret-size answered public secret in
+    record { value = all.0; public_after = all.1.0; secret_after = all.1.1 }

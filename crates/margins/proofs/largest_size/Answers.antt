@@ -1,5 +1,4 @@
 use mathlib.Core.Path.{◌≡◌, ap, ◌∙◌}
-use mathlib.Core.Logic.{⊎_elim}
 use Prim.Native.Nat.{◌-◌, ◌<◌}
 use native.Mathlib.Omega.{arith}
 use lib.IntN.{pos, nat_abs}
@@ -10,6 +9,7 @@ use Rattle.ring.proofs.SignedValues.{read_back}
 use Rattle.margins.proofs.LargestLaws.{largest_none, largest_more, largest_all}
 use borrow.Author.Rules.{rules}
 use Rattle.margins.proofs.largest_size.Goals as goal
+use Rattle.margins.proofs.largest_size.Goals.{then-s-largest, else-s-largest}
 
 pub loop-k-init : goal.loop-k-init
 loop-k-init c = largest_none _
@@ -24,10 +24,10 @@ loop-k-preserved c =
     let x = get_or w at.loop-k.k (pos 0) in
     let s : made.size-s.result ≡ nat_abs x = made.size-s.ensures ∙ ap nat_abs (read_back w16 x made.size-arg-1.given) in
     largest_more at.loop-k.invariant inside (
-    ⊎_elim
-    (λ t. omega (arith, t.1, t.0.taken, s))
-    (λ t. omega (arith, t.1, t.0.left, s))
-    c.if-s-largest.branch)
+    elim c.if-s-largest.branch [
+      then-s-largest t ↦ omega (arith, t.largest-is, t.if-s-largest.true, s)
+      | else-s-largest t ↦ omega (arith, t.largest-is, t.if-s-largest.false, s)
+    ])
 
 pub returns : goal.returns
 returns c =

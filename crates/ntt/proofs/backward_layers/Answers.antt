@@ -39,25 +39,25 @@ made k x e = record {
   below = subst (Below q) (sym e) (below-backward q 512 (backward_factor (9 - k)) x q-positive);
 }
 
--- the first layer, from the argument
-first-parts : (c : goal.After-halves) → Unzipped c.args.a c.halves.new.p
-first-parts c = unzip _ c.requires.below c.pairs.ensures c.halves.ensures
-
-first-layer : (c : goal.After-backward_layer) → c.backward_layer.new.r ≡ Layer 0 c.args.a
-first-layer c = c.backward_layer.ensures ∙ backward_of-unzipped q 512 _ _ _ (first-parts c).same
-
 pub backward_layer-requires : goal.backward_layer-requires
 backward_layer-requires c =
+    let first-parts : Unzipped c.args.a c.halves.new.p =
+    unzip _ c.requires.below c.pairs.ensures c.halves.ensures in
     let at = c in
-    let parts = first-parts (goal.at.backward_layer-requires c).After-halves in record { r_len = (refl, parts.size, parts.below, omega arith); w_value = at.requires.w_value }
+    let parts = first-parts in record { r_len = (refl, parts.size, parts.below, omega arith); w_value = at.requires.w_value }
 
 pub loop-k-init : goal.loop-k-init
-loop-k-init c = (
+loop-k-init c =
+    let first-parts : Unzipped c.args.a c.halves.new.p =
+    unzip _ c.requires.below c.pairs.ensures c.halves.ensures in
+    let first-layer : c.backward_layer.new.r ≡ Layer 0 c.args.a =
+    c.backward_layer.ensures ∙ backward_of-unzipped q 512 _ _ _ first-parts.same in
+    (
   search rules,
   search rules,
   ap length c.pairs.ensures ∙ length_pairs 512 _,
-  (first-parts (goal.at.loop-k-init c).After-halves).size,
-  made 0 _ (first-layer (goal.at.loop-k-init c).After-backward_layer),
+  first-parts.size,
+  made 0 _ first-layer,
   (λ a e. e),
 )
 
@@ -66,7 +66,7 @@ backward_layer-requires-in-loop-k c =
     let at = c in
     let s = at.loop-k.invariant.4 in
     let parts = unzip _ s.below c.pairs-in-loop-k.ensures c.halves-in-loop-k.ensures in
-    ((s.size, parts.size, parts.below, omega arith), at.requires.w_value)
+    record { r_len = (s.size, parts.size, parts.below, omega arith); w_value = at.requires.w_value }
 
 pub loop-k-preserved : goal.loop-k-preserved
 loop-k-preserved c =
@@ -84,7 +84,11 @@ loop-k-preserved c =
 
 pub returns : goal.returns
 returns c =
+    let first-parts : Unzipped c.args.a c.halves.new.p =
+    unzip _ c.requires.below c.pairs.ensures c.halves.ensures in
+    let first-layer : c.backward_layer.new.r ≡ Layer 0 c.args.a =
+    c.backward_layer.ensures ∙ backward_of-unzipped q 512 _ _ _ first-parts.same in
     let a = c.args.a in
     let all : c.loop-k.k ≡ 10 = omega arith in
-    let first = first-layer (goal.at.returns c).After-backward_layer ∙ sym (layers-one a) in
+    let first = first-layer ∙ sym (layers-one a) in
     c.loop-k.invariant.5 a first ∙ ap (λ (k : ℕ). layers Layer k a) all ∙ sym (layers-are a)

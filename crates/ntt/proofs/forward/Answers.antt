@@ -32,10 +32,11 @@ forward_layer-requires c =
 pub forward_layer-requires-in-loop-k : goal.forward_layer-requires-in-loop-k
 forward_layer-requires-in-loop-k c =
     let at = c in
-    let first = c.forward_layer.ensures in (
-      (at.loop-k.invariant.1, ap length first ∙ length-forward q 512 _ _, subst (Below q) (sym first) (below-forward q 512 _ _ q-positive), omega arith),
-      at.requires,
-    )
+    let first = c.forward_layer.ensures in
+    record {
+      r_len = (at.loop-k.invariant.1, ap length first ∙ length-forward q 512 _ _, subst (Below q) (sym first) (below-forward q 512 _ _ q-positive), omega arith);
+      w_value = at.requires;
+    }
 
 pub loop-k-preserved : goal.loop-k-preserved
 loop-k-preserved c =

@@ -26,7 +26,7 @@ returns-then-not-fits c =
     let e = args.encapsulation.now in
     let d = args.dummy.now in
     let old = args.out.now in
-    let misfit : leb 5 (length k) && eqb (length e) 4096 && eqb (length d) 768 && eqb (length old) 768 ≡ false = not-true _ c.if-not-fits.true in
+    let misfit : leb 5 (length k) && eqb (length e) 4096 && eqb (length d) 768 && eqb (length old) 768 ≡ false = c.if-not-fits.true in
     let answer = sym (ap (λ (b : Bool). unless b WrongLength (decapsulated_answer k e d)) misfit) in
     let kept = ap (λ (a : Answer). on_done a (outcome_bytes (decapsulated_outcome k e d)) old) answer in record { value = answer; out_after = kept; decapsulate_exact = decapsulate_promise k e d old (ap number answer) kept }
 
@@ -34,14 +34,14 @@ pub decapsulate_records-d-requires : goal.decapsulate_records-d-requires
 decapsulate_records-d-requires c =
     let args = c.args in
     let (key, encapsulation, dummy, room) =
-    (decapsulate-fits args.key.now args.encapsulation.now args.dummy.now (length args.out.now)).0 (not-false _ c.if-not-fits.false) in
+    (decapsulate-fits args.key.now args.encapsulation.now args.dummy.now (length args.out.now)).0 (c.if-not-fits.false) in
     (encapsulation, dummy)
 
 pub write_triple-requires : goal.write_triple-requires
 write_triple-requires c =
     let left = c in
     let args = left.args in
-    ((decapsulate-fits args.key.now args.encapsulation.now args.dummy.now (length args.out.now)).0 (not-false _ left.if-not-fits.false)).3
+    ((decapsulate-fits args.key.now args.encapsulation.now args.dummy.now (length args.out.now)).0 left.if-not-fits.false).3
 
 pub returns : goal.returns
 unfolding decapsulate_answer decapsulate_out
@@ -53,8 +53,9 @@ returns c =
     let e = args.encapsulation.now in
     let d = args.dummy.now in
     let old = args.out.now in
-    let fits : leb 5 (length k) && eqb (length e) 4096 && eqb (length d) 768 && eqb (length old) 768 ≡ true = not-false _ left.if-not-fits.false in
-    let (checked, triple) = found.decapsulate_records-d.ensures in
+    let fits : leb 5 (length k) && eqb (length e) 4096 && eqb (length d) 768 && eqb (length old) 768 ≡ true = left.if-not-fits.false in
+    let checked = found.decapsulate_records-d.ensures.answer_value in
+    let triple = found.decapsulate_records-d.ensures.triple_value in
     let whole = sym (ap (λ (b : Bool). unless b WrongLength (decapsulated_answer k e d)) fits) in
     let answer = checked ∙ whole in
     let written = c.write_triple.ensures

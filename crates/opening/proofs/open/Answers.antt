@@ -7,4 +7,5 @@ pub returns : goal.returns
 returns c =
     let made = c in
     let args = made.args in
-    let (answer, (_, out)) = made.open_entry-opened.ensures in record { value = answer; out_after = out; open_exact = open_promise args.key.now args.sealed.now args.noise.now args.out.now (ap number answer) out }
+    let answer = made.open_entry-opened.ensures.answer_value in
+    let out = made.open_entry-opened.ensures.out_after in record { value = answer; out_after = out; open_exact = open_promise args.key.now args.sealed.now args.noise.now args.out.now (ap number answer) out }

@@ -30,7 +30,7 @@ returns-then-not-fits c =
     let e = args.sealed.now in
     let noise = args.noise.now in
     let old = args.out.now in
-    let misfit : leb 5 (length k) && eqb (length e) 4133 && eqb (length noise) 1536 && eqb (length old) 16 ≡ false = not-true _ c.if-not-fits.true in
+    let misfit : leb 5 (length k) && eqb (length e) 4133 && eqb (length noise) 1536 && eqb (length old) 16 ≡ false = c.if-not-fits.true in
     let answer = sym (ap (λ (b : Bool). unless b WrongLength (whole k e noise)) misfit) in
     let kept = ap (λ (a : Answer). on_done a (opened_entry (opened_outcome k e noise) (body_part e)) old) answer in
     let none = sym (ap (λ (b : Bool). cond b (opened_quotients k e noise) (replicate 1024 (pos 0))) misfit) in record { answer_value = answer; quotients_value = none; out_after = kept }
@@ -40,7 +40,7 @@ slice_bounds-open_sealed-end-2 c =
     let left = c in
     let args = left.args in
     let (key, sealed, noise, room) =
-    (open-fits args.key.now args.sealed.now args.noise.now (length args.out.now)).0 (not-false _ left.if-not-fits.false) in
+    (open-fits args.key.now args.sealed.now args.noise.now (length args.out.now)).0 left.if-not-fits.false in
     search rules
 
 pub slice_bounds-open_sealed-end-3 : goal.slice_bounds-open_sealed-end-3
@@ -48,7 +48,7 @@ slice_bounds-open_sealed-end-3 c =
     let left = c in
     let args = left.args in
     let (key, sealed, noise, room) =
-    (open-fits args.key.now args.sealed.now args.noise.now (length args.out.now)).0 (not-false _ left.if-not-fits.false) in
+    (open-fits args.key.now args.sealed.now args.noise.now (length args.out.now)).0 left.if-not-fits.false in
     search rules
 
 pub open_sealed-requires : goal.open_sealed-requires
@@ -56,7 +56,7 @@ open_sealed-requires c =
     let left = c in
     let args = left.args in
     let (key, sealed, noise, room) =
-    (open-fits args.key.now args.sealed.now args.noise.now (length args.out.now)).0 (not-false _ left.if-not-fits.false) in
+    (open-fits args.key.now args.sealed.now args.noise.now (length args.out.now)).0 left.if-not-fits.false in
     let size = sealed in
     (search rules, noise, search rules, search rules, search rules)
 
@@ -70,8 +70,10 @@ returns c =
     let e = args.sealed.now in
     let noise = args.noise.now in
     let old = args.out.now in
-    let fits : leb 5 (length k) && eqb (length e) 4133 && eqb (length noise) 1536 && eqb (length old) 16 ≡ true = not-false _ left.if-not-fits.false in
-    let (checked, (quotients, written)) = opened.open_sealed.ensures in
+    let fits : leb 5 (length k) && eqb (length e) 4133 && eqb (length noise) 1536 && eqb (length old) 16 ≡ true = left.if-not-fits.false in
+    let checked = opened.open_sealed.ensures.answer_value in
+    let quotients = opened.open_sealed.ensures.quotients_value in
+    let written = opened.open_sealed.ensures.out_after in
     let answer =
     checked
     ∙ ap (λ (x : Answer). opened_by (secret_answer k) x (opened_outcome k e noise) (body_part e) (tag_part e)) (entry-front e)

@@ -30,12 +30,16 @@ returns c =
     let dummy = block in
     let read = dummy in
     let key = read in
-    let (answer, spectra) = key.read_secret_key-k.ensures in
+    let answer = key.read_secret_key-k.ensures.answer_value in
+    let spectra = key.read_secret_key-k.ensures.a_value in
     let args = key.args in
-    let (checked, (c1, c2)) = read.read_sealed-c.ensures in
+    let checked = read.read_sealed-c.ensures.answer_value in
+    let (c1, c2) = read.read_sealed-c.ensures.c1_value in
     let sized = read_sized args.key.now in
     let o =
     outcome_by_lem key.read_secret_key-k.result dummy.noise_triple-dummy.result read.read_sealed-c.result.c1 read.read_sealed-c.result.c2 sized spectra dummy.noise_triple-dummy.ensures c1 c2 in
     let w =
     quotients_by_lem key.read_secret_key-k.result dummy.noise_triple-dummy.result read.read_sealed-c.result.c1 read.read_sealed-c.result.c2 sized spectra dummy.noise_triple-dummy.ensures c1 c2 in
-    let (said, (k0, quotients)) = c.recover.ensures in record { answer_value = said ∙ opened_by_lem (args.front.now ++ args.body.now) answer checked o block.read_block-t.ensures; k0_value = k0 ∙ ap (λ (x : Outcome). triple_key0 (answered x)) o; quotients_value = quotients ∙ w }
+    let said = c.recover.ensures.answer_value in
+    let k0 = c.recover.ensures.k0_value in
+    let quotients = c.recover.ensures.quotients_value in record { answer_value = said ∙ opened_by_lem (args.front.now ++ args.body.now) answer checked o block.read_block-t.ensures; k0_value = k0 ∙ ap (λ (x : Outcome). triple_key0 (answered x)) o; quotients_value = quotients ∙ w }

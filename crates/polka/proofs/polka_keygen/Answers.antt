@@ -5,4 +5,5 @@ use Rattle.polka.proofs.polka_keygen.Goals as goal
 pub returns : goal.returns
 returns c =
     let made = c.keygen-answer.ensures in
-    (c.code.ensures ∙ ap code made.0, made.1)
+    let all = (c.code.ensures ∙ ap code made.value, made.1) in
+    record { value = all.0; public_after = all.1.0; secret_after = all.1.1 }

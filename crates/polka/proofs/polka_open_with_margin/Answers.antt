@@ -14,6 +14,9 @@ returns c =
     let noise = args.noise.now in
     let old = args.out.now in
     let lent = args.margin.now in
-    let (answer, (out, (margin, promise))) = made.open_with_margin-opened.ensures in
+    let answer = made.open_with_margin-opened.ensures.answer_value in
+    let out = made.open_with_margin-opened.ensures.out_after in
+    let margin = made.open_with_margin-opened.ensures.margin_value in
+    let promise = made.open_with_margin-opened.ensures.open_margin_exact in
     let n = c.code.ensures ∙ ap code answer in
     let value = c.write_value.ensures ∙ margin-written k sealed noise (length old) lent answer margin in record { value = n; out_after = out; margin_after = value; open_margin_exact = margin-export k sealed noise old lent n out value }

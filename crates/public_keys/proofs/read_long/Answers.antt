@@ -22,5 +22,7 @@ returns c =
     let k = start.args.bytes.now in
     let size : length k ≡ public_key_length = start.requires in
     let kind : is_seeded_key k ≡ false = ne_eqb (length k) seeded_key_length (λ e. omega arith) in
-    let (header, (elements, places)) = read.read_record-read.ensures in
+    let header = read.read_record-read.ensures.header_value in
+    let elements = read.read_record-read.ensures.first_value in
+    let places = read.read_record-read.ensures.first_value_2 in
     let marked = argument_is (λ (mark : List ℕ). header_answer mark 1 k) _ public_key_mark header refl in record { record_value = (front_checked public_key_mark 1 (a_word PublicKey) (b_word PublicKey) k marked places judged.front_answer-record.ensures ∙ sym (long-record k kind), sym (long-stream k kind)); a_value = (elements.0 ∙ sym (long-a k kind), elements.1 ∙ sym (long-b k kind)) }

@@ -1,5 +1,4 @@
 use mathlib.Core.Path.{◌≡◌, sym, ◌∙◌}
-use mathlib.Core.Logic.{⊎_elim}
 use Prim.Native.Nat.{◌-◌}
 use native.Mathlib.Omega.{arith}
 use lib.ListN.{length}
@@ -8,6 +7,7 @@ use Rattle.lists.proofs.Scan.{scanned_none, scanned_pass, scanned_fail}
 use Rattle.ntt.specs.Spectrum.{degree}
 use Rattle.reciprocals.proofs.HasZero.{nonzero-true, nonzero-false, zero-scanned}
 use Rattle.reciprocals.proofs.has_zero.Goals as goal
+use Rattle.reciprocals.proofs.has_zero.Goals.{then-reduce-eq0, else-reduce-eq0}
 
 pub loop-j-init : goal.loop-j-init
 loop-j-init c = scanned_none _ _
@@ -18,10 +18,10 @@ loop-j-preserved c =
     let inv = at.loop-j.invariant in
     let size : length at.args.t ≡ degree = search rules in
     let residue = sym c.reduce.ensures in
-    ⊎_elim
-    (λ w. rw w.1 (scanned_fail inv (omega arith) (nonzero-false _ (residue ∙ w.0.taken))))
-    (λ w. rw w.1 (scanned_pass inv (omega arith) (nonzero-true _ (λ e. w.0.left (sym residue ∙ e)))))
-    c.if-reduce-eq0.branch
+    elim c.if-reduce-eq0.branch [
+      then-reduce-eq0 w ↦ rw w.any-is (scanned_fail inv (omega arith) (nonzero-false _ (residue ∙ w.if-reduce-eq0.true)))
+      | else-reduce-eq0 w ↦ rw w.any-is (scanned_pass inv (omega arith) (nonzero-true _ (λ e. w.if-reduce-eq0.false (sym residue ∙ e))))
+    ]
 
 pub returns : goal.returns
 returns c =

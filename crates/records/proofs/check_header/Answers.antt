@@ -11,14 +11,14 @@ pub returns-then-not-has_mark : goal.returns-then-not-has_mark
 returns-then-not-has_mark c =
     let at = c in
     let args = at.args in
-    wrong_mark args.mark args.version args.bytes.now (sym at.has_mark.ensures ∙ not-true at.has_mark.result c.if-not-has_mark.true)
+    wrong_mark args.mark args.version args.bytes.now (sym at.has_mark.ensures ∙ c.if-not-has_mark.true)
 
 pub returns-then-version : goal.returns-then-version
 returns-then-version c =
     let at = c in
     let args = at.args in
     wrong_version args.mark args.version args.bytes.now
-    (sym at.has_mark.ensures ∙ not-false at.has_mark.result c.if-not-has_mark.false)
+    (sym at.has_mark.ensures ∙ c.if-not-has_mark.false)
     (ap (λ (v : ℕ). eqb v args.version) (sym c.version.ensures) ∙ ne_eqb c.version.result args.version c.if-version.true)
 
 pub returns : goal.returns
@@ -26,5 +26,5 @@ returns c =
     let at = c in
     let args = at.args in
     header-done args.mark args.version args.bytes.now
-    (sym at.has_mark.ensures ∙ not-false at.has_mark.result c.if-not-has_mark.false)
+    (sym at.has_mark.ensures ∙ c.if-not-has_mark.false)
     (ap (λ (v : ℕ). eqb v args.version) (sym c.version.ensures) ∙ eq-eqb c.version.result args.version c.if-version.false)

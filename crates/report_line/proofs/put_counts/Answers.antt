@@ -6,15 +6,15 @@ use Rattle.report_line.proofs.put_counts.Goals as goal
 pub returns : goal.returns
 unfolding counts_text
 returns c =
-    let fourth = c in
-    let third = fourth in
-    let second = third in
-    let first = second in
-    let begin = first in
-    let args = begin.args in
+    let args = c.args in
     let old = args.out.now in
-    put_both args.at old begin.requires _ _
-    (put_both args.at old begin.requires _ (decimal args.differed)
-    (put_both args.at old begin.requires (decimal args.agreed) _ first.put_decimal-a.ensures second.put-b.ensures)
-    third.put_decimal-c.ensures)
-    fourth.put.ensures
+    let first = c.put_decimal-a.ensures in
+    let second = c.put-b.ensures in
+    let third = c.put_decimal-c.ensures in
+    let fourth = c.put.ensures in
+    let all =
+    put_both args.at old c.requires _ _
+    (put_both args.at old c.requires _ (decimal args.differed)
+    (put_both args.at old c.requires (decimal args.agreed) _ (first.value, first.out_after) (second.value, second.out_after))
+    (third.value, third.out_after))
+    (fourth.value, fourth.out_after) in record { value = all.0; out_after = all.1 }

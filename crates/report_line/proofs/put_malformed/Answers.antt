@@ -6,12 +6,12 @@ use Rattle.report_line.proofs.put_malformed.Goals as goal
 pub returns : goal.returns
 unfolding malformed_text
 returns c =
-    let third = c in
-    let second = third in
-    let first = second in
-    let begin = first in
-    let args = begin.args in
+    let args = c.args in
     let old = args.out.now in
-    put_both args.at old begin.requires _ (decimal args.place)
-    (put_both args.at old begin.requires _ args.what.now first.put-a.ensures second.put-b.ensures)
-    third.put_decimal.ensures
+    let first = c.put-a.ensures in
+    let second = c.put-b.ensures in
+    let third = c.put_decimal.ensures in
+    let all =
+    put_both args.at old c.requires _ (decimal args.place)
+    (put_both args.at old c.requires _ args.what.now (first.value, first.out_after) (second.value, second.out_after))
+    (third.value, third.out_after) in record { value = all.0; out_after = all.1 }

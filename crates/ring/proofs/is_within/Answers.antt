@@ -1,5 +1,4 @@
 use mathlib.Core.Path.{◌≡◌, sym, ◌∙◌}
-use mathlib.Core.Logic.{⊎_elim}
 use Prim.Native.Nat.{◌-◌}
 use native.Mathlib.Omega.{arith}
 use lib.ListN.{length}
@@ -10,6 +9,7 @@ use Rattle.ring.specs.Ring.{n}
 use Rattle.ring.specs.Centred.{is_near}
 use Rattle.ring.proofs.Scans.{within-scanned}
 use Rattle.ring.proofs.is_within.Goals as goal
+use Rattle.ring.proofs.is_within.Goals.{then-not-is_near, else-not-is_near}
 
 pub loop-i-init : goal.loop-i-init
 loop-i-init c = scanned_none _ _
@@ -20,10 +20,10 @@ loop-i-preserved c =
     let inv = at.loop-i.invariant in
     let size : length at.args.a ≡ n = search rules in
     let near = sym c.is_near.ensures in
-    ⊎_elim
-    (λ w. rw w.1 (scanned_fail inv (omega arith) (near ∙ not-true _ w.0.taken)))
-    (λ w. rw w.1 (scanned_pass inv (omega arith) (near ∙ not-false _ w.0.left)))
-    c.if-not-is_near.branch
+    elim c.if-not-is_near.branch [
+      then-not-is_near w ↦ rw w.all-is (scanned_fail inv (omega arith) (near ∙ w.if-not-is_near.true))
+      | else-not-is_near w ↦ rw w.all-is (scanned_pass inv (omega arith) (near ∙ w.if-not-is_near.false))
+    ]
 
 pub returns : goal.returns
 returns c =

@@ -28,8 +28,8 @@ loop-i-preserved c =
     let rule : ℕ → ℤ = λ k. four_bits (nibble_at bytes k) in
     let first = c.noise in
     front-filled-next rule
-    (front-filled-next rule at.loop-i.invariant (omega arith) (read_back w16 _ first.type-inv ∙ first.ensures ∙ ap four_bits (omega (arith, low))) refl)
-    (omega arith) (read_back w16 _ c.noise-in-loop-i.type-inv ∙ c.noise-in-loop-i.ensures ∙ ap four_bits (omega (arith, high))) (omega arith)
+    (front-filled-next rule at.loop-i.invariant (omega arith) (read_back w16 _ first.type_inv ∙ first.ensures ∙ ap four_bits (omega (arith, low))) refl)
+    (omega arith) (read_back w16 _ c.noise-in-loop-i.type_inv ∙ c.noise-in-loop-i.ensures ∙ ap four_bits (omega (arith, high))) (omega arith)
 
 pub returns : goal.returns
 returns c =

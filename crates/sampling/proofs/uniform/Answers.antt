@@ -1,11 +1,11 @@
 use mathlib.Core.Path.{◌≡◌, refl}
-use mathlib.Core.Logic.{⊎_elim}
 use Prim.Native.Nat.{◌+◌, ◌-◌, ◌*◌}
 use native.Mathlib.Omega.{arith}
 use Rattle.ring.specs.Ring.{q, n}
 use Rattle.sampling.proofs.Streams.{stream-words}
 use Rattle.sampling.proofs.Reading.{read_none, read_pass, read_take, read-full, read_all}
 use Rattle.sampling.proofs.uniform.Goals as goal
+use Rattle.sampling.proofs.uniform.Goals.{then-w-lt-Q+else-count-eq-DEGREE, else-w-lt-Q}
 
 pub blocks-2-init : goal.blocks-2-init
 blocks-2-init c = (omega arith, omega arith, read_none q n _ _ refl)
@@ -23,10 +23,13 @@ loop-j-preserved c =
     let k = at.blocks-2.k in
     let next : 84 * k + (at.loop-j.j + 1) ≡ 84 * k + at.loop-j.j + 1 = omega arith in
     let word = c.word-w.ensures in
-    ⊎_elim
-    (λ w. (omega arith, block, omega (arith, w.1.left, w.3), rw (next, w.2, w.3) (read_take _ inv (omega arith) (omega arith) word w.0.taken room)))
-    (λ w. (omega arith, block, omega (arith, w.2), rw (next, w.1, w.2) (read_pass _ inv (omega arith) (omega arith) word w.0.left)))
-    c.if-w-lt-Q.branch
+    elim c.if-w-lt-Q.branch [
+      then-w-lt-Q+else-count-eq-DEGREE w ↦
+        (omega arith, block, omega (arith, w.if-count-eq-DEGREE.false, w.count-is),
+          rw (next, w.value-is, w.count-is) (read_take _ inv (omega arith) (omega arith) word w.if-w-lt-Q.true room))
+      | else-w-lt-Q w ↦
+        (omega arith, block, omega (arith, w.count-is), rw (next, w.value-is, w.count-is) (read_pass _ inv (omega arith) (omega arith) word w.if-w-lt-Q.false))
+    ]
 
 pub blocks-2-preserved : goal.blocks-2-preserved
 blocks-2-preserved c =

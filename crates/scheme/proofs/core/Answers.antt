@@ -6,12 +6,6 @@ use Rattle.ntt.specs.Spectrum.{coefficients_of}
 use Rattle.ring.specs.Centred.{remainders, quotients}
 use Rattle.scheme.specs.Scheme.{Triple, recovered, judged}
 use Rattle.scheme.specs.Answers.{triple_of, answer}
-use Rattle.scheme.proofs.core.Reads as reads
-use Rattle.scheme.proofs.core.Lts as lts
-use Rattle.ring.proofs.divide_by_5.Reads as divide-by-5-reads
-use Rattle.scheme.proofs.judge.Reads as judge-reads
-use Rattle.scheme.proofs.phase.Reads as phase-reads
-use Rattle.scheme.proofs.recover.Reads as recover-reads
 use Rattle.scheme.proofs.core.Goals as goal
 
 pub returns : goal.returns
@@ -19,7 +13,7 @@ unfolding Any.core
 returns c =
     let divided = c in
     let args = divided.args in
-    let (parts, _) = divided.divide_by_5-d.ensures in
+    let parts = divided.divide_by_5-d.ensures.remainders_value in
     let m = divided.phase.ensures in
     let e2 = parts.0 ∙ ap remainders m in
     let w = parts.1 ∙ ap quotients m in

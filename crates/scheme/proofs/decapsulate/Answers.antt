@@ -12,11 +12,6 @@ use Rattle.scheme.specs.declared.Decapsulation.{Decapsulation}
 use Rattle.scheme.specs.Answers.{triple_of, answer}
 use Rattle.scheme.proofs.Steps.{summed_through, summed-size}
 use borrow.Author.Rules.{rules}
-use Rattle.scheme.proofs.decapsulate.Reads as reads
-use Rattle.scheme.proofs.decapsulate.Lts as lts
-use Rattle.ntt.proofs.pointwise.Reads as pointwise-reads
-use Rattle.scheme.proofs.add_dummy.Reads as add-dummy-reads
-use Rattle.scheme.proofs.core.Reads as core-reads
 use Rattle.scheme.proofs.decapsulate.Goals as goal
 
 pub returns : goal.returns

@@ -4,11 +4,6 @@ use Rattle.ntt.specs.Spectrum.{coefficients_of}
 use Rattle.ring.specs.Ring.{difference}
 use Rattle.scheme.proofs.Steps.{phase_by-spectra}
 use borrow.Author.Rules.{rules}
-use Rattle.scheme.proofs.phase.Reads as reads
-use Rattle.scheme.proofs.phase.Lts as lts
-use Rattle.ntt.proofs.backward.Reads as backward-reads
-use Rattle.ring.proofs.difference.Reads as difference-reads
-use Rattle.ring.proofs.multiple.Reads as multiple-reads
 use Rattle.scheme.proofs.phase.Goals as goal
 
 pub returns : goal.returns

@@ -7,12 +7,6 @@ use Rattle.ntt.specs.Spectrum.{coefficients_of, pointwise}
 use Rattle.ring.specs.Ring.{difference, product}
 use Rattle.scheme.proofs.Steps.{triple-same, r_by-spectra, e1_by-spectra}
 use borrow.Author.Rules.{rules}
-use Rattle.scheme.proofs.recover.Reads as reads
-use Rattle.scheme.proofs.recover.Lts as lts
-use Rattle.ntt.proofs.backward.Reads as backward-reads
-use Rattle.ntt.proofs.forward.Reads as forward-reads
-use Rattle.ntt.proofs.pointwise.Reads as pointwise-reads
-use Rattle.ring.proofs.difference.Reads as difference-reads
 use Rattle.scheme.proofs.recover.Goals as goal
 
 pub returns : goal.returns

@@ -13,5 +13,7 @@ returns c =
     let read = judged in
     let args = read.args in
     let bytes = args.bytes.now in
-    let (header, (elements, places)) = read.read_record-read.ensures in
+    let header = read.read_record-read.ensures.header_value in
+    let elements = read.read_record-read.ensures.first_value in
+    let places = read.read_record-read.ensures.first_value_2 in
     let words = words_checked (c1_word SealedEntry) (c2_word SealedEntry) (first_of bytes) (second_of bytes) places judged.sealed_words_answer-words.ensures in record { answer_value = c.and_then-2.ensures ∙ ap₂ and_then header (c.and_then.ensures ∙ ap (and_then args.between) words); c1_value = elements }

@@ -22,6 +22,8 @@ returns c =
     let triple = made in
     let read = triple in
     let k = read.args.key.now in
-    let (checked, (a, b)) = read.read_public_key-k.ensures in
-    let (answer, (c1, c2)) = made.encapsulate_with-e.ensures in
+    let checked = read.read_public_key-k.ensures.answer_value in
+    let (a, b) = read.read_public_key-k.ensures.a_value in
+    let answer = made.encapsulate_with-e.ensures.answer_value in
+    let (c1, c2) = made.encapsulate_with-e.ensures.c1_value in
     let both = masked_both (public_a k) (public_b k) (length-a k) (length-b k) a b (triple_of triple.noise_triple-t.result) c1 c2 in record { answer_value = answer ∙ then_nothing read.read_public_key-k.result.answer ∙ checked; triple_value = triple.noise_triple-t.ensures; c1_value = both }

@@ -21,5 +21,7 @@ returns c =
     let codes = triple in
     let read = codes in
     let k = read.args.key.now in
-    let (checked, (a, b)) = read.read_public_key-k.ensures in
-    let (answer, (c1, c2)) = c.encapsulate_with.ensures in record { answer_value = answer ∙ ap₂ and_then checked codes.check_triple-codes.ensures; c2_value = encapsulated-through (public_a k) (public_b k) (length-a k) (length-b k) a b c1 c2 triple.read_triple-t.ensures }
+    let checked = read.read_public_key-k.ensures.answer_value in
+    let (a, b) = read.read_public_key-k.ensures.a_value in
+    let answer = c.encapsulate_with.ensures.answer_value in
+    let (c1, c2) = c.encapsulate_with.ensures.c1_value in record { answer_value = answer ∙ ap₂ and_then checked codes.check_triple-codes.ensures; c2_value = encapsulated-through (public_a k) (public_b k) (length-a k) (length-b k) a b c1 c2 triple.read_triple-t.ensures }

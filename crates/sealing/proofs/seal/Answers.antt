@@ -19,14 +19,14 @@ returns-then-not-fits c =
     let noise = args.noise.now in
     let entry = args.entry.now in
     let old = args.out.now in
-    let misfit = seal-fits_by k noise entry (length old) c.is_public_length.ensures (not-true _ c.if-not-fits.true) in
+    let misfit = seal-fits_by k noise entry (length old) c.is_public_length.ensures (c.if-not-fits.true) in
     let answer = sym (ap (λ (b : Bool). unless b WrongLength (public_answer k)) misfit) in record { value = answer; out_after = ap (λ (a : Answer). on_done a (sealed_bytes k noise entry) old) answer }
 
 pub encapsulate_noise-p-requires : goal.encapsulate_noise-p-requires
 encapsulate_noise-p-requires c =
     let args = c.args in
     let fits =
-    seal-fits_by args.key.now args.noise.now args.entry.now (length args.out.now) c.is_public_length.ensures (not-false _ c.if-not-fits.false) in
+    seal-fits_by args.key.now args.noise.now args.entry.now (length args.out.now) c.is_public_length.ensures (c.if-not-fits.false) in
     let (key, noise, entry, room) =
     (seal-fits args.key.now args.noise.now args.entry.now (length args.out.now)).0 fits in
     (key, noise)
@@ -36,7 +36,7 @@ write_sealed-requires c =
     let left = c in
     let args = left.args in
     let fits =
-    seal-fits_by args.key.now args.noise.now args.entry.now (length args.out.now) left.is_public_length.ensures (not-false _ left.if-not-fits.false) in
+    seal-fits_by args.key.now args.noise.now args.entry.now (length args.out.now) left.is_public_length.ensures left.if-not-fits.false in
     let (key, noise, entry, room) =
     (seal-fits args.key.now args.noise.now args.entry.now (length args.out.now)).0 fits in
     (entry, room)
@@ -51,6 +51,8 @@ returns c =
     let noise = args.noise.now in
     let entry = args.entry.now in
     let old = args.out.now in
-    let fits = seal-fits_by k noise entry (length old) left.is_public_length.ensures (not-false _ left.if-not-fits.false) in
-    let (checked, (triple, (c1, c2))) = made.encapsulate_noise-p.ensures in
+    let fits = seal-fits_by k noise entry (length old) left.is_public_length.ensures left.if-not-fits.false in
+    let checked = made.encapsulate_noise-p.ensures.answer_value in
+    let triple = made.encapsulate_noise-p.ensures.triple_value in
+    let (c1, c2) = made.encapsulate_noise-p.ensures.c1_value in
     let answer = checked ∙ sym (ap (λ (b : Bool). unless b WrongLength (public_answer k)) fits) in record { value = answer; out_after = c.write_sealed.ensures ∙ seal-written k noise entry old answer triple c1 c2 }

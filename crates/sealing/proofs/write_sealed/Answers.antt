@@ -8,7 +8,8 @@ returns-in-Done c =
     let put = c in
     let told = put in
     let args = told.args in
-    let (body, tag) = put.protect-tag.ensures in
+    let body = put.protect-tag.ensures.body_after in
+    let tag = put.protect-tag.ensures.value in
     c.write_sealed_entry.ensures
     ∙ ap₂ (sealed_entry_bytes args.c1 args.c2) body tag
     ∙ sym (on_done_lem _ _ told.in-Done.is)

@@ -24,9 +24,10 @@ returns c =
     let judged = decoded in
     let read = judged in
     let k = read.args.bytes.now in
-    let ((a, b), places) = read.read_pair-read.ensures in
+    let (a, b) = read.read_pair-read.ensures.first_value in
+    let places = read.read_pair-read.ensures.first_value_2 in
     let words = words_checked (a_word SecretKey) (b_word SecretKey) (first_of k) (second_of k) places judged.words_answer-words.ensures in
     let s = decoded.decode_ternary-secret.ensures in
     let key = made.check_key-checked.ensures in
     let matches = checked.unless-matches.ensures
-    ∙ ap (λ (t : Bool). unless t KeyMismatch Done) (key.0 ∙ ap₃ (λ (x y z : List ℕ). is_within 1 (key_error x y z)) a b s) in record { words_value = (words, judged.check_codes-codes.ensures, matches); a_value = (key.1.0 ∙ ap spectrum_of a, key.1.1 ∙ ap spectrum_of b, key.1.2 ∙ ap spectrum_of s) }
+    ∙ ap (λ (t : Bool). unless t KeyMismatch Done) (key.matches_value ∙ ap₃ (λ (x y z : List ℕ). is_within 1 (key_error x y z)) a b s) in record { words_value = (words, judged.check_codes-codes.ensures, matches); a_value = (key.a_value.0 ∙ ap spectrum_of a, key.a_value.1 ∙ ap spectrum_of b, key.a_value.2 ∙ ap spectrum_of s) }

@@ -17,4 +17,6 @@ returns c =
     let s = args.s.now in
     let e = args.e.now in
     let stream = made.stream-stream.ensures in
-    let (answer, ((a, b), t)) = c.generate.ensures in record { answer_value = answer ∙ ap (λ (x : List ℕ). generated_answer x s e) stream; a_value = (a ∙ ap uniform_element stream, b ∙ ap (λ (x : List ℕ). keygen_b x s e) stream); s_value = t }
+    let answer = c.generate.ensures.answer_value in
+    let (a, b) = c.generate.ensures.a_value in
+    let t = c.generate.ensures.s_value in record { answer_value = answer ∙ ap (λ (x : List ℕ). generated_answer x s e) stream; a_value = (a ∙ ap uniform_element stream, b ∙ ap (λ (x : List ℕ). keygen_b x s e) stream); s_value = t }

@@ -27,7 +27,7 @@ returns-then-not-fits c =
     let public = args.public.now in
     let secret = args.secret.now in
     let misfit : eqb (length seed) 32 && eqb (length s) 512 && eqb (length e) 512 && eqb (length public) 2085 && eqb (length secret) 4357 ≡ false =
-    not-true _ c.if-not-fits.true in
+    c.if-not-fits.true in
     let answer = sym (ap (λ (b : Bool). unless b WrongLength (generated_answer (seed_stream seed) s e)) misfit) in record { value = answer; public_after = ap (λ (a : Answer). on_done a (new_seeded_key seed s e) public) answer; secret_after = ap (λ (a : Answer). on_done a (new_secret_key (seed_stream seed) s e) secret) answer }
 
 pub write_seeded_key-requires : goal.write_seeded_key-requires
@@ -35,14 +35,14 @@ write_seeded_key-requires c =
     let left = c in
     let args = left.args in
     let (seed, _, _, public, _) =
-    (seeded-keygen-fits args.seed.now args.s.now args.e.now (length args.public.now) (length args.secret.now)).0 (not-false _ left.if-not-fits.false) in
+    (seeded-keygen-fits args.seed.now args.s.now args.e.now (length args.public.now) (length args.secret.now)).0 left.if-not-fits.false in
     (seed, public)
 
 pub write_secret_key-requires : goal.write_secret_key-requires
 write_secret_key-requires c =
     let left = c in
     let args = left.args in
-    ((seeded-keygen-fits args.seed.now args.s.now args.e.now (length args.public.now) (length args.secret.now)).0 (not-false _ left.if-not-fits.false)).4
+    ((seeded-keygen-fits args.seed.now args.s.now args.e.now (length args.public.now) (length args.secret.now)).0 left.if-not-fits.false).4
 
 pub returns : goal.returns
 unfolding seeded_keygen_answer new_seeded_key new_secret_key seeded_keygen_public seeded_keygen_secret
@@ -56,8 +56,10 @@ returns c =
     let public = args.public.now in
     let secret = args.secret.now in
     let fits : eqb (length seed) 32 && eqb (length s) 512 && eqb (length e) 512 && eqb (length public) 2085 && eqb (length secret) 4357 ≡ true =
-    not-false _ left.if-not-fits.false in
-    let (checked, ((a, b), t)) = made.generate-g.ensures in
+    left.if-not-fits.false in
+    let checked = made.generate-g.ensures.answer_value in
+    let (a, b) = made.generate-g.ensures.a_value in
+    let t = made.generate-g.ensures.s_value in
     let answer = checked ∙ sym (ap (λ (x : Bool). unless x WrongLength (generated_answer (seed_stream seed) s e)) fits) in record { value = answer; public_after = c.write_seeded_key.ensures
             ∙ ap₂ (λ (x : Answer) (l : List ℕ). on_done x l public) answer (ap (seeded_key_bytes seed) b); secret_after = c.write_secret_key.ensures
             ∙ ap₂ (λ (x : Answer) (l : List ℕ). on_done x l secret) answer (ap₂ (λ (x y : List ℕ). x ++ y) (ap₂ (record_bytes secret_key_mark 1) a b) (ap ternary_bytes t)) }

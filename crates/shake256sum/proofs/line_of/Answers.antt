@@ -1,5 +1,5 @@
 use mathlib.Core.Path.{◌≡◌, ap, ◌∙◌}
-use mathlib.Core.List.{List, ◌∷◌, ◌++◌}
+use mathlib.Core.List.{List, [], ◌∷◌, ◌++◌}
 use Prim.Native.Nat.{ℕ}
 use native.Mathlib.Omega.{arith}
 use lib.ListN.{length, set, replicate}
@@ -21,7 +21,7 @@ unfolding line_of
 returns c =
     let shaken = c in
     let message = shaken.args.message.now in
-    let output = shaken.shake256.new.1.0 in
-    let size : length output ≡ 32 = shaken.shake256.auto.1.0 in
+    let output = shaken.shake256.new.out in
+    let size : length output ≡ 32 = shaken.shake256.auto.out in
     let same : output ≡ shake256 message 32 = shaken.shake256.ensures in
     ap (λ (l : List ℕ). set l 64 10) c.encode.ensures ∙ full output size ∙ ap (λ (l : List ℕ). text_of l ++ (10 ∷ [])) same

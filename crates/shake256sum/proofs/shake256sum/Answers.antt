@@ -10,7 +10,7 @@ use Rattle.shake256sum.proofs.shake256sum.Goals as goal
 pub returns-then-input-gt-MOST : goal.returns-then-input-gt-MOST
 returns-then-input-gt-MOST c =
     let (none, message) = above c.args.input.now c.if-input-gt-MOST.true in
-    rw (none, message) (refl, ((refl, omega arith), (refl, (refl, omega arith))))
+    rw (none, message) (record { line_value = refl; shown_value = (refl, omega arith); error_value = refl; told_value = (refl, omega arith) })
 
 pub returns : goal.returns
 returns c =
@@ -19,4 +19,9 @@ returns c =
     let made = c.line_of-line.ensures in
     let size : length c.line_of-line.result ≡ 65 = search rules in
     let whole : length (line_of input) ≡ 65 = sym (ap length made) ∙ size in
-    rw (line, none) (made ∙ written_whole (line_of input) (zeros 65) whole, ((sym whole, omega arith), (refl, (refl, omega arith))))
+    rw (line, none) (record {
+      line_value = made ∙ written_whole (line_of input) (zeros 65) whole;
+      shown_value = (sym whole, omega arith);
+      error_value = refl;
+      told_value = (refl, omega arith);
+    })

@@ -1,5 +1,4 @@
 use mathlib.Core.Path.{refl, sym}
-use Prim.Native.Nat.{◌-◌}
 use lib.ListN.{length, length-replicate, get_or-replicate}
 use Rattle.lists.proofs.Fill.{filled_none, filled_more, filled-all}
 use Rattle.vectors.proofs.fill.Goals as goal

@@ -17,4 +17,4 @@ returns-in-Bytes c =
     let buffer = args.buffer.now in
     ap (λ (n : ℕ). take n buffer) c.lesser.ensures
     ∙ take-cut _ buffer
-    ∙ sym (ap (λ (r : Contents). bytes_read r buffer) c.read-1.given.1)
+    ∙ sym (ap (λ (r : Contents). bytes_read r buffer) c.in-Bytes.is)
