@@ -1,5 +1,5 @@
 -- The definitions on lanes are those of FIPS 202 on bits.
-use mathlib.Core.Path.{◌≡◌, refl, sym, ap, ◌∙◌}
+use mathlib.Core.Path.{◌≡◌, refl, ◌∙◌}
 use Prim.Native.Nat.{ℕ, zero, suc, ◌+◌, ◌*◌, ◌-◌, ◌%◌, ◌^◌, ◌<◌, ◌≤◌}
 use native.Mathlib.Nat.{mod-lt}
 use native.Mathlib.Omega.{arith}
@@ -13,7 +13,7 @@ use Rattle.keccak_steps.proofs.States.{Wide, lane-state}
 use Rattle.keccak_steps.proofs.Words.{rotate-bit}
 use Rattle.keccak.specs.Keccak.{round, rounds, keccak_f}
 use Rattle.keccak.proofs.Wide.{parity-lt, theta_wide, rho_wide, pi_wide, chi_lane, rounds_wide}
-use Rattle.fips202.specs.Keccak.{Array, bits, ◌⊕◌, parity_bit, effect_bit, theta_bits, rho_bits, pi_bits, chi_bits, iota_bits, round_bits, rounds_bits}
+use Rattle.fips202.specs.Keccak.{Array, bits, ◌⊕◌, parity_bit, theta_bits, rho_bits, pi_bits, chi_bits, iota_bits, round_bits, rounds_bits}
 
 -- two state arrays are the same
 abbrev pub Same : Array → Array → Type 0

@@ -1,10 +1,10 @@
 -- The definitions on bytes are those of FIPS 202 on bits.
 use mathlib.Core.Path.{◌≡◌, refl, sym, ap, ap₂, ◌∙◌}
 use mathlib.Core.List.{List, [], ◌∷◌, ◌++◌, append_assoc}
-use Prim.Native.Nat.{ℕ, zero, suc, ◌+◌, ◌*◌, ◌-◌, ◌/◌, ◌%◌, ◌^◌, ◌<◌, ◌≤◌}
+use Prim.Native.Nat.{ℕ, zero, suc, ◌+◌, ◌*◌, ◌-◌, ◌/◌, ◌%◌, ◌^◌, ◌<◌}
 use native.Mathlib.Nat.{add-zero, zero-div, mod-eq_of_lt, mod-lt, div-add-mod, div-div-eq-div-mul, mul-div_cancel_left, mul-add-mod_self_left, mul_assoc}
 use native.Mathlib.Omega.{arith}
-use lib.ListN.{length, get_or, take, drop, length-append, length-replicate, replicate-append-replicate, get_or-append}
+use lib.ListN.{length, get_or, take, drop, length-append, replicate-append-replicate, get_or-append}
 use lib.Bits.{bit_xor, xor_lt}
 use lib.Seq.{get_or-append-add, get_or-drop, take-nil, drop-nil, take-append-add, drop-append-add}
 use Rattle.lists.specs.Table.{table, table_from, zeros}
@@ -12,7 +12,7 @@ use Rattle.lists.specs.Bits.{bit}
 use Rattle.lists.proofs.Tables.{length-table, get_or-table, table_same, table_is}
 use Rattle.lists.proofs.Zeros.{get_or-append-zeros, zeros-table}
 use Rattle.lists.proofs.Bits.{bit-mod, bit_shr, bit-above, bit_below, bit-xor}
-use Rattle.keccak_steps.specs.Steps.{State, lane, state}
+use Rattle.keccak_steps.specs.Steps.{State, lane}
 use Rattle.keccak_steps.proofs.States.{Wide, wide-state, lane-state}
 use Rattle.keccak.specs.Keccak.{keccak_f}
 use Rattle.keccak.proofs.Wide.{keccak_wide}
@@ -21,7 +21,7 @@ use Rattle.string_to_state.specs.Words.{word, state_of}
 use Rattle.state_to_string.specs.Bytes.{lane_byte, byte_of, bytes_of}
 use Rattle.shake.specs.Sponge.{xor_state, absorb_block, absorbed, permuted, squeezed, absorb, squeeze}
 use Rattle.shake.specs.Shake.{padding, padded, shake, shake128, shake256}
-use Rattle.fips202.specs.Keccak.{Array, bits, ◌⊕◌, rounds_bits}
+use Rattle.fips202.specs.Keccak.{Array, bits, ◌⊕◌}
 use Rattle.fips202.proofs.Keccak.{Same, rounds-same, keccak_bits_lem}
 use Rattle.fips202.specs.Shake.{bits_of, array_of, string_of, keccak_bits, pad101, absorb_block_bits, absorbed_bits, permuted_bits, squeezed_bits, sponge_bits, shake128_bits, shake256_bits}
 

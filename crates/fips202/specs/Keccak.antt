@@ -1,6 +1,6 @@
 -- The step mappings as FIPS 202, section 3.2, states them: on the bits A[x, y, z] of a state array. Those of
 -- `keccak_steps` and `keccak` are on lanes; `keccak_bits_lem` of proofs/Keccak.antt shows that they are the same.
-use Rattle.std.specs.Prelude.{ℕ, zero, suc, ◌+◌, ◌*◌, ◌-◌, ◌%◌, ◌<◌, ◌^◌, cond, ◌&&◌, eqb}
+use Rattle.std.specs.Prelude.{ℕ, zero, suc, ◌+◌, ◌*◌, ◌-◌, ◌%◌, cond, ◌&&◌, eqb}
 use Rattle.lists.specs.Bits.{bit}
 use Rattle.keccak_steps.specs.Constants.{offset, round_constant}
 use Rattle.keccak_steps.specs.Steps.{State, lane}

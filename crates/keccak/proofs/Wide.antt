@@ -7,7 +7,7 @@ use lib.Dec.{ltb, ltb→lt}
 use lib.Pow.{ones_sub-lt}
 use Rattle.lists.proofs.Finite.{at_each}
 use Rattle.keccak_steps.specs.Constants.{offset, round_constant}
-use Rattle.keccak_steps.specs.Steps.{State, lane, state, rotate, complement, parity, effect, theta, rho, pi, chi, iota}
+use Rattle.keccak_steps.specs.Steps.{State, lane, state, rotate, complement, parity, effect, theta, rho, pi, iota}
 use Rattle.keccak_steps.proofs.States.{Wide, wide-state}
 use Rattle.keccak_steps.proofs.Words.{rotate-lt}
 use Rattle.keccak.specs.Keccak.{round, rounds, keccak_f}

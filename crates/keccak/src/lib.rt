@@ -1,6 +1,8 @@
 // Keccak-p[1600, 24] of FIPS 202, sections 3.3 and 3.4: the round, and the 24 rounds, on the state by value.
 //
 // Six lanes of the state are held complemented between the rounds, as chi takes them.
+#![tactic(auto)]
+
 ghost use Rattle.std.specs.Prelude.{◌≡◌, ◌+◌, ◌*◌, ◌<◌};
 ghost use Rattle.lists.specs.Table.{table};
 ghost use Rattle.keccak_steps.specs.Constants.{round_constant};

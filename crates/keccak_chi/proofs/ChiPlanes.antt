@@ -1,7 +1,7 @@
 -- A plane of chi on complemented lanes, as the code writes it.
 use mathlib.Core.Path.{◌≡◌, sym, ap, ◌∙◌}
 use mathlib.Core.List.{List, [], ◌∷◌}
-use Prim.Native.Nat.{ℕ, ◌-◌, ◌^◌, ◌<◌}
+use Prim.Native.Nat.{ℕ, ◌^◌, ◌<◌}
 use lib.Bits.{bit_xor, bit_and, bit_or, xor_lt, or_lt, and_lt}
 use lib.ListN.{get_or}
 use Rattle.keccak_steps.specs.Steps.{complement}

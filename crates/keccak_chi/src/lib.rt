@@ -2,6 +2,8 @@
 //
 // Six lanes are held complemented between the rounds: with them chi takes five complements in place of 25 ("lane complementing" of the Keccak
 // implementation overview). Theta, rho and pi only add lanes and turn them, so they carry complements along.
+#![tactic(auto)]
+
 ghost use Rattle.std.specs.Prelude.{◌≡◌};
 ghost use Rattle.keccak_chi.specs.Complementing.{marks, complemented_by, complemented_chi_plane, complemented_chi};
 

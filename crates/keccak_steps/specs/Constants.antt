@@ -1,6 +1,6 @@
 -- The constants of Keccak-p[1600, 24] by the rules of FIPS 202, section 3.2: the offsets of algorithm 2 and the round constants of
 -- algorithms 5 and 6.
-use Rattle.std.specs.Prelude.{Bool, ◌&&◌, cond, List, [], ◌∷◌, ℕ, zero, suc, ◌+◌, ◌*◌, ◌/◌, ◌%◌, ◌-◌, ◌^◌, eqb, get_or}
+use Rattle.std.specs.Prelude.{◌&&◌, cond, List, [], ◌∷◌, ℕ, zero, suc, ◌+◌, ◌*◌, ◌/◌, ◌%◌, ◌-◌, ◌^◌, eqb, get_or}
 use Rattle.std.specs.Int.Bits.{bit_xor}
 
 -- Algorithm 2, step 3, for the n turns from t on, with the walk now at lane (u, v): the offset (t + 1)(t + 2) / 2 of lane (x, y)

@@ -1,5 +1,7 @@
 // The step mappings theta, rho, pi and iota of Keccak-p[1600, 24], FIPS 202, section 3.2: the state, five planes of five lanes, goes in and out
 // by value. Chi stands in `keccak_chi`.
+#![tactic(auto)]
+
 ghost use Rattle.std.specs.Prelude.{◌≡◌, [], ◌∷◌, ◌+◌, ◌*◌, ◌%◌, ◌<◌, get_or};
 ghost use Rattle.std.specs.Int.Bits.{bit_xor};
 ghost use Rattle.lists.specs.Table.{table};

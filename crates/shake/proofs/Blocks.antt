@@ -2,11 +2,11 @@
 use mathlib.Core.Path.{◌≡◌, refl, sym, ap, ap₂, ◌∙◌}
 use mathlib.Core.List.{List, [], ◌∷◌, ◌++◌, append_assoc}
 use Prim.Native.Nat.{ℕ, zero, suc, ◌+◌, ◌*◌, ◌-◌, ◌/◌, ◌%◌, ◌<◌, ◌≤◌}
-use native.Mathlib.Nat.{mul-suc, mul-div-le, mul-le-mul_left, mul-le-mul_right, le_trans, le_of_eq, mod-lt, div-add-mod, mul-div_cancel_left, mul-add-div, div-eq_of_lt, add-zero, sub-zero}
+use native.Mathlib.Nat.{mul-suc, mul-div-le, mul-le-mul_left, mul-le-mul_right, le_trans, le_of_eq, mod-lt, div-add-mod, mul-div_cancel_left, mul-add-div, div-eq_of_lt, add-zero}
 use native.Mathlib.Numerals.{add-one}
 use native.Mathlib.Omega.{arith}
 use lib.ListN.{length, take, drop, set, length-append, length-drop, length-replicate}
-use lib.Seq.{take_at, take-append-le, drop-append-le, take_all, set_at}
+use lib.Seq.{take-append-le, drop-append-le, take_all, set_at}
 use Rattle.lists.specs.Table.{zeros}
 use Rattle.lists.proofs.Zeros.{zeros_around}
 use Rattle.shake.specs.Sponge.{block, absorbed, absorb}

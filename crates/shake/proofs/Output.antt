@@ -9,7 +9,7 @@ use lib.ListN.{length, take, drop}
 use Rattle.lists.specs.Table.{table, table_from}
 use Rattle.lists.proofs.Tables.{length-table, table-append, table_same, take-table, part-table}
 use Rattle.lists.proofs.Parts.{length_part}
-use Rattle.lists.proofs.Fill.{Filled, filled-part, filled-all}
+use Rattle.lists.proofs.Fill.{Filled, filled-part}
 use Rattle.keccak_steps.specs.Steps.{State}
 use Rattle.state_to_string.specs.Bytes.{byte_of, bytes_of}
 use Rattle.state_to_string.proofs.LaneBytes.{take-bytes}

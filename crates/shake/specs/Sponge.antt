@@ -1,5 +1,5 @@
 -- The sponge of FIPS 202, section 4, over Keccak-p[1600, 24], on strings of whole bytes. The rate r is counted in bytes.
-use Rattle.std.specs.Prelude.{List, [], ◌∷◌, ◌++◌, ℕ, zero, suc, ◌+◌, ◌*◌, ◌/◌, ◌%◌, ◌-◌, ◌<◌, ◌≤◌, ◌≡◌, length, take, drop}
+use Rattle.std.specs.Prelude.{List, [], ◌++◌, ℕ, zero, suc, ◌+◌, ◌*◌, ◌/◌, ◌%◌, ◌-◌, ◌<◌, ◌≤◌, ◌≡◌, length, take, drop}
 use Rattle.std.specs.Int.Bits.{bit_xor}
 use Rattle.lists.specs.Table.{zeros}
 use Rattle.keccak_steps.specs.Steps.{State, lane, state}

@@ -1,4 +1,6 @@
 // SHAKE128 and SHAKE256 of FIPS 202 over one sponge, whose rate in bytes is a parameter.
+#![tactic(auto)]
+
 ghost use Rattle.std.specs.Prelude.{◌≡◌, ◌++◌, ◌/◌, ◌-◌, ◌<◌, ◌≤◌, length};
 ghost use Rattle.lists.specs.Table.{table, zeros};
 ghost use Rattle.string_to_state.specs.Words.{word};

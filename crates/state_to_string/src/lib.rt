@@ -1,4 +1,6 @@
 // States as strings of bytes, FIPS 202, section 3.1.3: the first bytes of a state's string stored.
+#![tactic(auto)]
+
 ghost use Rattle.std.specs.Prelude.{◌≡◌, ◌≤◌, length, take};
 ghost use Rattle.lists.specs.Table.{table};
 ghost use Rattle.state_to_string.specs.Bytes.{lane_byte, bytes_of};

@@ -1,4 +1,6 @@
 // Strings of bytes as states, FIPS 202, section 3.1.2: a string's lanes, and a state with them added.
+#![tactic(auto)]
+
 ghost use Rattle.std.specs.Prelude.{◌≡◌, ◌+◌, ◌*◌, ◌%◌, ◌<◌, ◌≤◌, length, get_or};
 ghost use Rattle.std.specs.Int.Bits.{bit_xor};
 ghost use Rattle.lists.specs.Table.{table};

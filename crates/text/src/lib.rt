@@ -1,4 +1,6 @@
 // Text put together in a buffer, and numbers in decimal digits: what programs print. All texts are ASCII bytes.
+#![tactic(auto)]
+
 ghost use Rattle.std.specs.Prelude.{◌≡◌, ◌++◌, ◌+◌, ◌-◌, ◌≤◌, min, length, take, drop};
 ghost use Rattle.lists.specs.Table.{zeros};
 ghost use Rattle.text.specs.Text.{written, decimal};

@@ -11,5 +11,5 @@ returns c =
     let first = c in
     let args = first.args in
     let front = record_bytes sealed_entry_mark 2 args.c1 args.c2 in
-    put-plain front (take 2 args.t3) args.out.now _ third_place 2 first.write_record.ensures
+    put-plain front (take 2 args.l) args.out.now _ third_place 2 first.write_record.ensures
     (length-record_bytes sealed_entry_mark 2 args.c1 args.c2) refl c.copy.ensures

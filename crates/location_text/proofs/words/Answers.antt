@@ -1,5 +1,5 @@
 use mathlib.Core.Path.{sym, ap}
-use mathlib.Core.List.{List, ◌∷◌}
+use mathlib.Core.List.{List, [], ◌∷◌}
 use Prim.Native.Nat.{ℕ}
 use native.Mathlib.Omega.{arith}
 use lib.ListN.{length}
@@ -28,4 +28,5 @@ returns c =
     let inside = put_more (part_name l.part) apart part.put_part-part.ensures.value part.put_part-part.ensures.out_after in
     let before = put_more (32 ∷ []) inside behind.put-end.ensures.value behind.put-end.ensures.out_after in
     let all = put_more (decimal l.index) before digits.put_decimal-length.ensures.value digits.put_decimal-length.ensures.out_after in
-    words-put l tested.if-l-eq0.false all
+    let shown = words-put l tested.if-l-eq0.false all in
+    record { bytes_value = shown.0; length_value = shown.1 }

@@ -23,6 +23,6 @@ loop-k-preserved c = (omega arith, below_more _ _ c.loop-k.invariant.1 c.if-a-k.
 pub returns : goal.returns
 returns c =
     let args = c.args in
-    let sizeA : length args.t1 ≡ 1024 = search rules in
-    let sizeB : length args.t2 ≡ 1024 = search rules in
-    same-yes (ext_get_or 0 args.t1 args.t2 (omega arith) (λ i h. c.loop-k.invariant.1 i (omega arith)))
+    let sizeA : length args.a ≡ 1024 = search rules in
+    let sizeB : length args.b ≡ 1024 = search rules in
+    same-yes (ext_get_or 0 args.a args.b (omega arith) (λ i h. c.loop-k.invariant.1 i (omega arith)))

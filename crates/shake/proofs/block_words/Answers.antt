@@ -12,6 +12,10 @@ use Rattle.shake.specs.Shake.{padded}
 use Rattle.shake.proofs.Blocks.{start_fits, last_place, rest-fits, block_inside, block_end}
 use Rattle.shake.proofs.block_words.Goals as goal
 
+-- block k lies within the message
+fits : (r n k : ℕ) → k ≤ n / r → r ≤ n - r * k → r * k + r ≤ n
+fits r n k h l = omega (arith, start_fits r n k h)
+
 pub overflow_mul-at : goal.overflow_mul-at
 overflow_mul-at c = omega (arith, start_fits _ _ _ c.requires.1)
 
@@ -19,38 +23,28 @@ pub overflow_sub-input : goal.overflow_sub-input
 overflow_sub-input c = start_fits _ _ _ c.requires.1
 
 pub overflow_add-at : goal.overflow_add-at
-overflow_add-at c =
-    let fits : c.args.rate * c.args.k + c.args.rate ≤ length c.args.input.now =
-    omega (arith, start_fits _ _ _ c.requires.1, c.if-input-at.true) in
-    omega (arith, fits)
+overflow_add-at c = omega (arith, fits _ _ _ c.requires.1 c.if-input-at.true)
 
 pub slice_bounds-words-end : goal.slice_bounds-words-end
-slice_bounds-words-end c =
-    let fits : c.args.rate * c.args.k + c.args.rate ≤ length c.args.input.now =
-    omega (arith, start_fits _ _ _ c.requires.1, c.if-input-at.true) in
-    fits
+slice_bounds-words-end c = fits _ _ _ c.requires.1 c.if-input-at.true
 
 pub words-requires : goal.words-requires
 words-requires c =
-    let fits : c.args.rate * c.args.k + c.args.rate ≤ length c.args.input.now =
-    omega (arith, start_fits _ _ _ c.requires.1, c.if-input-at.true) in
     let start = c in
     let r = start.args.rate in
     let at = r * start.args.k in
     let size : at + r - at ≡ r = omega arith in
-    rw (length_part at (at + r) start.args.input.now fits, size) start.requires.0.lanes
+    rw (length_part at (at + r) start.args.input.now (fits _ _ _ c.requires.1 c.if-input-at.true), size) start.requires.0.lanes
 
 pub returns-then-input-at : goal.returns-then-input-at
 returns-then-input-at c =
-    let fits : c.args.rate * c.args.k + c.args.rate ≤ length c.args.input.now =
-    omega (arith, start_fits _ _ _ c.requires.1, c.if-input-at.true) in
     let start = c in
     let r = start.args.rate in
     let m = start.args.input.now in
     let at = r * start.args.k in
     let size : at + r - at ≡ r = omega arith in
     let inside : take (at + r - at) (drop at m) ≡ block r start.args.k (padded r m) =
-    rw size (sym (block_inside r start.requires.0.some m start.args.k fits)) in
+    rw size (sym (block_inside r start.requires.0.some m start.args.k (fits _ _ _ c.requires.1 c.if-input-at.true))) in
     c.words.ensures ∙ ap (λ (b : List ℕ). table 25 (word b)) inside
 
 pub slice_bounds-last_block-count : goal.slice_bounds-last_block-count

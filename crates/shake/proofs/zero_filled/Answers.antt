@@ -1,5 +1,4 @@
 use mathlib.Core.Path.{refl}
-use Prim.Native.Nat.{◌-◌}
 use Rattle.lists.proofs.Fill.{zero-filled_none, zero-filled_more, zero-filled_all}
 use Rattle.shake.proofs.zero_filled.Goals as goal
 

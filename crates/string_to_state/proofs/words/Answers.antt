@@ -1,5 +1,4 @@
 use mathlib.Core.Path.{refl}
-use Prim.Native.Nat.{◌-◌}
 use Rattle.lists.proofs.Tables.{length-table}
 use Rattle.lists.proofs.Fill.{filled_none, filled-more-by, filled-all}
 use Rattle.string_to_state.specs.Words.{word}

@@ -2,8 +2,6 @@ use mathlib.Core.Path.{◌≡◌, refl}
 use Prim.Native.Nat.{suc, ◌-◌}
 use native.Mathlib.Omega.{arith}
 use Rattle.text.proofs.Decimals.{written_none, not_first, written_more, written_last}
-use Rattle.text.proofs.decimal.Reads as reads
-use Rattle.text.proofs.decimal.Lts as lts
 use Rattle.text.proofs.decimal.Goals as goal
 
 pub loop-left-init : goal.loop-left-init
@@ -22,5 +20,5 @@ loop-left-preserved c =
 
 pub returns : goal.returns
 returns c =
-    let done = written_last c.loop-left.invariant (omega arith) refl in
-    record { bytes_value = done.0; start_value = done.1 }
+    let last = written_last c.loop-left.invariant (omega arith) refl in
+    record { bytes_value = last.0; start_value = last.1 }

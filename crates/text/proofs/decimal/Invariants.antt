@@ -1,7 +1,4 @@
-use Prim.Native.Nat.{◌-◌}
 use Rattle.text.proofs.Decimals.{Written}
-use Rattle.text.proofs.decimal.Reads as reads
-use Rattle.text.proofs.decimal.Lts as lts
 use Rattle.text.proofs.decimal.Given as goal
 
 abbrev pub invariant-loop-left : goal.invariant-loop-left

@@ -30,6 +30,9 @@ returns c =
     let some : at + n - at ≡ n = omega arith in
     let front : n - 0 ≡ n = omega arith in
     let size = length-drop at old in
-    let least : n ≡ min (length s) (length (drop at old)) = omega (arith, made.lesser-n.ensures) in record { value = omega (arith, made.lesser-n.ensures); out_after = ap (λ (x : List ℕ). take at old ++ (x ++ drop (at + n - at) (drop at old))) c.copy.ensures
+    let least : n ≡ min (length s) (length (drop at old)) = omega (arith, made.lesser-n.ensures) in record {
+      value = omega (arith, made.lesser-n.ensures);
+      out_after = ap (λ (x : List ℕ). take at old ++ (x ++ drop (at + n - at) (drop at old))) c.copy.ensures
           ∙ ap₂ (λ (j k : ℕ). take at old ++ (take j s ++ drop k (drop at old))) front some
-          ∙ ap (λ (x : List ℕ). take at old ++ x) (copied s (drop at old) n least) }
+          ∙ ap (λ (x : List ℕ). take at old ++ x) (copied s (drop at old) n least);
+    }

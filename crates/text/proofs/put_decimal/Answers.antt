@@ -6,10 +6,6 @@ use lib.ListN.{length, take, drop}
 use Rattle.text.specs.Text.{written}
 use Rattle.text.proofs.Decimals.{last_digits}
 use borrow.Author.Rules.{rules}
-use Rattle.text.proofs.put_decimal.Reads as reads
-use Rattle.text.proofs.put_decimal.Lts as lts
-use Rattle.text.proofs.decimal.Reads as decimal-reads
-use Rattle.text.proofs.put.Reads as put_reads
 use Rattle.text.proofs.put_decimal.Goals as goal
 
 pub slice_bounds-put-end : goal.slice_bounds-put-end
