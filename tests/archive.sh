@@ -5,5 +5,5 @@
 archive=${POLKA_ARCHIVE:-$top/target/staticlib/libpolka.a}
 if [ -z "${POLKA_ARCHIVE:-}" ] && outdated "$archive" polka; then
     echo "Proving and building the archive, which takes some minutes the first time:"
-    prove staticlib polka
+    prove archive polka polka
 fi

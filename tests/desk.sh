@@ -1,6 +1,6 @@
 #!/usr/bin/env bash
 # Runs the desk program on cases by other hands and on endless input, and fails where a line is not the expected one.
-# usage: tests/desk.sh [FOLDER]     after `rt check desk`; FOLDER holds desk.bin, and is crates/reference_vectors/data by default
+# usage: tests/desk.sh [FOLDER]     after `tests/programs.sh desk`; FOLDER holds desk.bin, and is crates/reference_vectors/data by default
 set -euo pipefail
 
 top=$(cd "$(dirname "$0")/.." && pwd)

@@ -1,6 +1,6 @@
 #!/usr/bin/env bash
 # Runs nist_shake on damaged copies of NIST's files, and fails where a report is not the expected one.
-# usage: tests/nist_damaged.sh     from the top of the repository, after `rt check nist_shake`
+# usage: tests/nist_damaged.sh     from the top of the repository, after `tests/programs.sh nist_shake`
 set -euo pipefail
 
 top=$(cd "$(dirname "$0")/.." && pwd)

@@ -1,9 +1,9 @@
 # shellcheck shell=bash disable=SC2154
-# Read by the scripts beside it: `prove check NAME..` and `prove staticlib NAME` are those of `rt`, with a line for each crate as it is
-# proved and how many are left; what has not changed is only counted. What `rt` says stands in target/log/prove.txt, and is shown where
-# it fails.
+# Read by the scripts beside it. `prove programs NAME..` proves and builds programs and puts them into target/bin; `prove archive CRATE NAME`
+# does so with a static library, into target/staticlib/libNAME.a. A line says which crates took time and how many are left. What `rt` says
+# stands in target/log/prove.txt, and is shown where it fails.
 
-# reached NAME..: these crates and all that they use, by crates.txt, a line each
+# reached NAME..: these crates and all that they use, by crates.txt, a line each, those that others use first
 reached() {
     awk -v names="$*" '
         /^[a-z]/ { name = $1; sub(/:$/, "", name); $1 = ""; uses[name] = $0 }
@@ -30,37 +30,52 @@ outdated() {
     [ ! -f "$1" ] || [ -n "$(find "${folders[@]}" -type f -newer "$1" -print -quit 2>/dev/null)" ]
 }
 
-prove() {
-    local log=$top/target/log/prove.txt all proved=0 start=$SECONDS line status=0
-    all=$(reached "${@:2}" | wc -l)
+# build_crate NAME: a library, a static library, or a program, which is run once without input
+build_crate() {
+    cd "$top/crates/$1" || return
+    if [ -f src/main.rt ]; then
+        # rt answers with the program's own status: that it was built, this line says
+        rt run </dev/null 2>&1 | tee "$top/target/log/run.txt"
+        grep -q "^rt: running out/$1;" "$top/target/log/run.txt"
+    else
+        rt lib </dev/null 2>&1
+    fi
+}
+
+# build NAME..: each with all that it uses
+build() {
+    local log=$top/target/log/prove.txt all left crate began start=$SECONDS
     mkdir -p "$top/target/log"
     : >"$log"
-    # a crate may take a minute: every 15 seconds there is a sign of life
-    exec 3< <(if cd "$top" && rt "$@" 2>&1; then echo "rt ended: 0"; else echo "rt ended: $?"; fi)
-    while true; do
-        if IFS= read -r -t 15 -u 3 line; then
-            if [[ $line =~ ^"rt ended: "([0-9]+)$ ]]; then
-                status=${BASH_REMATCH[1]}
-                break
-            fi
-            # an archive's own crate is named by its file
-            if [[ $line =~ ^"rt: "([a-z0-9_]+)" proved" || $line =~ ^"rt: target/staticlib/lib"([a-z0-9_]+)\.a" has" ]]; then
-                proved=$((proved + 1))
-                [[ $line == *" (unchanged "* ]] || echo "   ${BASH_REMATCH[1]} proved, $((all - proved)) left ($((SECONDS - start)) s)"
-            fi
-            printf '%s\n' "$line" >>"$log"
-        elif [ $? -gt 128 ]; then
-            echo "   .. $((all - proved)) left ($((SECONDS - start)) s)"
-        else
-            # rt was stopped
-            status=1
-            break
+    all=$(reached "$@")
+    left=$(wc -l <<<"$all")
+    for crate in $all; do
+        began=$SECONDS
+        if ! (build_crate "$crate") >>"$log"; then
+            cat "$log"
+            echo "crate $crate failed: target/log/prove.txt" >&2
+            return 1
         fi
+        left=$((left - 1))
+        [ $((SECONDS - began)) -lt 5 ] || echo "   $crate proved, $left left ($((SECONDS - start)) s)"
     done
-    exec 3<&-
-    if [ "$status" != 0 ]; then
-        cat "$log"
-        echo "'rt $*' failed with status $status: target/log/prove.txt" >&2
-    fi
-    return "$status"
+}
+
+prove() {
+    local name
+    case $1 in
+    programs)
+        shift
+        build "$@" || return
+        mkdir -p "$top/target/bin"
+        for name in "$@"; do
+            cp "$top/crates/$name/out/$name" "$top/target/bin/$name" || return
+        done
+        ;;
+    archive)
+        build "$2" || return
+        mkdir -p "$top/target/staticlib"
+        cp "$top/crates/$2/out/lib$2.a" "$top/target/staticlib/lib$3.a"
+        ;;
+    esac
 }

@@ -20,7 +20,7 @@ fi
 digits=$(printf '%s' "$entry" | od -An -v -tx1 | tr -d ' \n')
 
 echo "Proving and building make_key, seal_entry and desk, which takes some minutes the first time:"
-prove check make_key seal_entry desk
+prove programs make_key seal_entry desk
 
 random() {
     head -c "$1" /dev/urandom

@@ -1,6 +1,6 @@
 #!/usr/bin/env bash
 # Compares shake256sum with openssl on inputs of several lengths, and fails where they differ.
-# usage: tests/shake256sum.sh     from the top of the repository, after `rt check shake256sum`
+# usage: tests/shake256sum.sh     from the top of the repository, after `tests/programs.sh shake256sum`
 set -euo pipefail
 
 top=$(cd "$(dirname "$0")/.." && pwd)

@@ -1,4 +1,5 @@
-//! The desk program on vectors and on many inputs beside the reference. It needs target/bin/desk (`rt check desk`), and so runs on demand:
+//! The desk program on vectors and on many inputs beside the reference. It needs target/bin/desk (`tests/programs.sh desk`), and so runs on
+//! demand:
 //! cargo test --release --test desk_program -- --ignored --nocapture
 mod common;
 
