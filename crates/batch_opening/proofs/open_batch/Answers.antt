@@ -23,7 +23,7 @@ open_records-requires c =
     let left = c in
     let args = left.args in
     let (_, size, noise, room) =
-    (opening-fits args.key.now args.batch.now args.noise.now (length args.out.now)).0 (not-false _ left.if-not-fits.false) in
+    (opening-fits args.key.now args.batch.now args.noise.now (length args.out.now)).0 left.if-not-fits.false in
     (size, noise, room)
 
 pub returns : goal.returns
@@ -35,7 +35,7 @@ returns c =
     let batch = args.batch.now in
     let noise = args.noise.now in
     let old = args.out.now in
-    let same = checks_decide k batch noise (length old) (not-false _ left.if-not-fits.false) in
+    let same = checks_decide k batch noise (length old) left.if-not-fits.false in
     let checked = opened.open_records.ensures.answer_value in
     let counted = opened.open_records.ensures.count_value in
     let written = opened.open_records.ensures.out_after in

@@ -23,7 +23,7 @@ returns-then-not-fits c =
     let counted = c in
     let whole = counted in
     let args = whole.args in
-    let count = sym counted.is_count.ensures ∙ not-false _ counted.if-not-is_count.false in
+    let count = sym counted.is_count.ensures ∙ counted.if-not-is_count.false in
     let misfit =
     fits_by args.key.now args.noise.now args.blocks.now (length args.out.now) c.is_public_length.ensures (c.if-not-fits.true) in
     let answer =
@@ -44,7 +44,7 @@ write_sealed-requires c =
     let args = whole.args in
     let (key, noise, room) =
     (sealing-fits args.key.now args.noise.now args.blocks.now (length args.out.now)).0
-    (fits_by args.key.now args.noise.now args.blocks.now (length args.out.now) left.is_public_length.ensures (not-false _ left.if-not-fits.false)) in
+    (fits_by args.key.now args.noise.now args.blocks.now (length args.out.now) left.is_public_length.ensures left.if-not-fits.false) in
     (whole.if-size-ne0.false, room)
 
 pub returns : goal.returns
@@ -54,9 +54,9 @@ returns c =
     let counted = left in
     let whole = counted in
     let args = whole.args in
-    let count = sym counted.is_count.ensures ∙ not-false _ counted.if-not-is_count.false in
+    let count = sym counted.is_count.ensures ∙ counted.if-not-is_count.false in
     let fits =
-    fits_by args.key.now args.noise.now args.blocks.now (length args.out.now) left.is_public_length.ensures (not-false _ left.if-not-fits.false) in
+    fits_by args.key.now args.noise.now args.blocks.now (length args.out.now) left.is_public_length.ensures left.if-not-fits.false in
     let checked = made.encapsulate_noise-p.ensures.answer_value in
     let triple = made.encapsulate_noise-p.ensures.triple_value in
     let (c1, c2) = made.encapsulate_noise-p.ensures.c1_value in

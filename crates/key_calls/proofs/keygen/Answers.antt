@@ -33,13 +33,13 @@ pub write_public_key-requires : goal.write_public_key-requires
 write_public_key-requires c =
     let left = c in
     let args = left.args in
-    ((keygen-fits args.stream.now args.s.now args.e.now (length args.public.now) (length args.secret.now)).0 (not-false _ left.if-not-fits.false)).3
+    ((keygen-fits args.stream.now args.s.now args.e.now (length args.public.now) (length args.secret.now)).0 left.if-not-fits.false).3
 
 pub write_secret_key-requires : goal.write_secret_key-requires
 write_secret_key-requires c =
     let left = c in
     let args = left.args in
-    ((keygen-fits args.stream.now args.s.now args.e.now (length args.public.now) (length args.secret.now)).0 (not-false _ left.if-not-fits.false)).4
+    ((keygen-fits args.stream.now args.s.now args.e.now (length args.public.now) (length args.secret.now)).0 left.if-not-fits.false).4
 
 pub returns : goal.returns
 unfolding keygen_answer new_public_key new_secret_key keygen_public keygen_secret
@@ -53,7 +53,7 @@ returns c =
     let public = args.public.now in
     let secret = args.secret.now in
     let fits : eqb (length stream) 2688 && eqb (length s) 512 && eqb (length e) 512 && eqb (length public) 4101 && eqb (length secret) 4357 ≡ true =
-    not-false _ left.if-not-fits.false in
+    left.if-not-fits.false in
     let checked = made.generate-g.ensures.value in
     let (a, b) = made.generate-g.ensures.public_after in
     let t = made.generate-g.ensures.secret_after in

@@ -40,7 +40,7 @@ write_compact-requires c =
     let args = left.args in
     let k = args.key.now in
     let room = length args.out.now in
-    let (_, fits) = both (leb header_length (length k)) (eqb room secret_key_length) (not-false _ left.if-not-fits.false) in
+    let (_, fits) = both (leb header_length (length k)) (eqb room secret_key_length) left.if-not-fits.false in
     (long_enough true k (sym checked.check_version-checked.ensures.answer_value ∙ c.in-Done.is), eqb-true room secret_key_length fits)
 
 pub returns-in-Done : goal.returns-in-Done
@@ -52,7 +52,7 @@ returns-in-Done c =
     let args = left.args in
     let k = args.key.now in
     let old = args.out.now in
-    let fits : leb header_length (length k) && eqb (length old) secret_key_length ≡ true = not-false _ left.if-not-fits.false in
+    let fits : leb header_length (length k) && eqb (length old) secret_key_length ≡ true = left.if-not-fits.false in
     let answer = checked.check_version-checked.ensures.answer_value ∙ sym (ap (λ (b : Bool). unless b WrongLength (version_answer expanded_key_version k)) fits) in
     let written = c.write_compact.ensures ∙ sym (on_done_lem _ old (sym answer ∙ told.in-Done.is)) in record { value = answer; out_after = written; compact_exact = compact_promise k old (ap number answer) written }
 
@@ -64,6 +64,6 @@ returns-in_default c =
     let args = left.args in
     let k = args.key.now in
     let old = args.out.now in
-    let fits : leb header_length (length k) && eqb (length old) secret_key_length ≡ true = not-false _ left.if-not-fits.false in
+    let fits : leb header_length (length k) && eqb (length old) secret_key_length ≡ true = left.if-not-fits.false in
     let answer = checked.check_version-checked.ensures.answer_value ∙ sym (ap (λ (b : Bool). unless b WrongLength (version_answer expanded_key_version k)) fits) in
     let kept = ap (λ (a : Answer). on_done a (compact_bytes k) old) (sym c.in_default.is ∙ answer) in record { value = answer; out_after = kept; compact_exact = compact_promise k old (ap number answer) kept }

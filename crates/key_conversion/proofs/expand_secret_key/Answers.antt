@@ -45,7 +45,7 @@ write_expanded-requires c =
     let args = left.args in
     let k = args.key.now in
     let room = length args.out.now in
-    let (_, fits) = both (leb header_length (length k)) (eqb room expanded_key_length) (not-false _ left.if-not-fits.false) in
+    let (_, fits) = both (leb header_length (length k)) (eqb room expanded_key_length) left.if-not-fits.false in
     (long_enough false k (sym checked.check_version-checked.ensures.answer_value ∙ c.in-Done.is), eqb-true room expanded_key_length fits)
 
 pub returns-in-Done : goal.returns-in-Done
@@ -58,7 +58,7 @@ returns-in-Done c =
     let args = left.args in
     let k = args.key.now in
     let old = args.out.now in
-    let fits : leb header_length (length k) && eqb (length old) expanded_key_length ≡ true = not-false _ left.if-not-fits.false in
+    let fits : leb header_length (length k) && eqb (length old) expanded_key_length ≡ true = left.if-not-fits.false in
     let says = checked.check_version-checked.ensures.answer_value in
     let inverse = checked.check_version-checked.ensures.inverse_value in
     let answer = says ∙ sym (ap (λ (b : Bool). unless b WrongLength (version_answer secret_key_version k)) fits) in
@@ -74,6 +74,6 @@ returns-in_default c =
     let args = left.args in
     let k = args.key.now in
     let old = args.out.now in
-    let fits : leb header_length (length k) && eqb (length old) expanded_key_length ≡ true = not-false _ left.if-not-fits.false in
+    let fits : leb header_length (length k) && eqb (length old) expanded_key_length ≡ true = left.if-not-fits.false in
     let answer = checked.check_version-checked.ensures.answer_value ∙ sym (ap (λ (b : Bool). unless b WrongLength (version_answer secret_key_version k)) fits) in
     let kept = ap (λ (a : Answer). on_done a (expanded_bytes k (inverse_of (second_of k))) old) (sym c.in_default.is ∙ answer) in record { value = answer; out_after = kept; expand_exact = expand_promise k old (ap number answer) kept }

@@ -41,7 +41,7 @@ pub write_triple-requires : goal.write_triple-requires
 write_triple-requires c =
     let left = c in
     let args = left.args in
-    ((decapsulate-fits args.key.now args.encapsulation.now args.dummy.now (length args.out.now)).0 (not-false _ left.if-not-fits.false)).3
+    ((decapsulate-fits args.key.now args.encapsulation.now args.dummy.now (length args.out.now)).0 left.if-not-fits.false).3
 
 pub returns : goal.returns
 unfolding decapsulate_answer decapsulate_out
@@ -53,7 +53,7 @@ returns c =
     let e = args.encapsulation.now in
     let d = args.dummy.now in
     let old = args.out.now in
-    let fits : leb 5 (length k) && eqb (length e) 4096 && eqb (length d) 768 && eqb (length old) 768 ≡ true = not-false _ left.if-not-fits.false in
+    let fits : leb 5 (length k) && eqb (length e) 4096 && eqb (length d) 768 && eqb (length old) 768 ≡ true = left.if-not-fits.false in
     let checked = found.decapsulate_records-d.ensures.answer_value in
     let triple = found.decapsulate_records-d.ensures.triple_value in
     let whole = sym (ap (λ (b : Bool). unless b WrongLength (decapsulated_answer k e d)) fits) in

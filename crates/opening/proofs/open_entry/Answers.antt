@@ -40,7 +40,7 @@ slice_bounds-open_sealed-end-2 c =
     let left = c in
     let args = left.args in
     let (key, sealed, noise, room) =
-    (open-fits args.key.now args.sealed.now args.noise.now (length args.out.now)).0 (not-false _ left.if-not-fits.false) in
+    (open-fits args.key.now args.sealed.now args.noise.now (length args.out.now)).0 left.if-not-fits.false in
     search rules
 
 pub slice_bounds-open_sealed-end-3 : goal.slice_bounds-open_sealed-end-3
@@ -48,7 +48,7 @@ slice_bounds-open_sealed-end-3 c =
     let left = c in
     let args = left.args in
     let (key, sealed, noise, room) =
-    (open-fits args.key.now args.sealed.now args.noise.now (length args.out.now)).0 (not-false _ left.if-not-fits.false) in
+    (open-fits args.key.now args.sealed.now args.noise.now (length args.out.now)).0 left.if-not-fits.false in
     search rules
 
 pub open_sealed-requires : goal.open_sealed-requires
@@ -56,7 +56,7 @@ open_sealed-requires c =
     let left = c in
     let args = left.args in
     let (key, sealed, noise, room) =
-    (open-fits args.key.now args.sealed.now args.noise.now (length args.out.now)).0 (not-false _ left.if-not-fits.false) in
+    (open-fits args.key.now args.sealed.now args.noise.now (length args.out.now)).0 left.if-not-fits.false in
     let size = sealed in
     (search rules, noise, search rules, search rules, search rules)
 
@@ -70,7 +70,7 @@ returns c =
     let e = args.sealed.now in
     let noise = args.noise.now in
     let old = args.out.now in
-    let fits : leb 5 (length k) && eqb (length e) 4133 && eqb (length noise) 1536 && eqb (length old) 16 ≡ true = not-false _ left.if-not-fits.false in
+    let fits : leb 5 (length k) && eqb (length e) 4133 && eqb (length noise) 1536 && eqb (length old) 16 ≡ true = left.if-not-fits.false in
     let checked = opened.open_sealed.ensures.answer_value in
     let quotients = opened.open_sealed.ensures.quotients_value in
     let written = opened.open_sealed.ensures.out_after in

@@ -24,6 +24,6 @@ returns c =
     let made = written in
     let left = made in
     let args = left.args in
-    let fits : fit args.a.now args.b.now args.out.now ≡ true = not-false _ left.if-not-fits.false in
+    let fits : fit args.a.now args.b.now args.out.now ≡ true = left.if-not-fits.false in
     let room : length args.out.now ≡ 2048 = eqb-true _ _ (both (eqb (length args.a.now) 2048 && eqb (length args.b.now) 2048) _ fits).1 in
     let value = made.product.ensures ∙ ap₂ product made.decode_element-x.ensures made.decode_element-y.ensures in record { value = rw fits; out_after = rw fits (written.encode_element.ensures ∙ put-exact _ _ (length-element_bytes _ ∙ sym room) ∙ ap element_bytes value) }

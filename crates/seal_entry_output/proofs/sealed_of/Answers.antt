@@ -22,4 +22,4 @@ returns c =
     let input = start.args.input.now in
     let answered = called.seal_parts.ensures.value in
     let sealed = called.seal_parts.ensures.sealed_after in record { value = answered ∙ ap (seal_answer (key_part input) (noise_part input) (entry_part input)) start.requires
-          ∙ sym (answer_by_length input (sym left.is_input_length.ensures ∙ not-false _ left.if-not-is_input_length.false)); sealed_after = sealed ∙ ap (λ (a : Answer). on_done a (sealed_entry input) start.args.sealed.now) (sym answered) }
+          ∙ sym (answer_by_length input (sym left.is_input_length.ensures ∙ left.if-not-is_input_length.false)); sealed_after = sealed ∙ ap (λ (a : Answer). on_done a (sealed_entry input) start.args.sealed.now) (sym answered) }

@@ -35,7 +35,7 @@ pub write_encapsulation-requires : goal.write_encapsulation-requires
 write_encapsulation-requires c =
     let left = c in
     let args = left.args in
-    let fits = encapsulate-fits_by args.key.now args.triple.now (length args.out.now) left.is_public_length.ensures (not-false _ left.if-not-fits.false) in
+    let fits = encapsulate-fits_by args.key.now args.triple.now (length args.out.now) left.is_public_length.ensures left.if-not-fits.false in
     ((encapsulate-fits args.key.now args.triple.now (length args.out.now)).0 fits).2
 
 pub returns : goal.returns
@@ -47,7 +47,7 @@ returns c =
     let k = args.key.now in
     let t = args.triple.now in
     let old = args.out.now in
-    let fits = encapsulate-fits_by k t (length old) left.is_public_length.ensures (not-false _ left.if-not-fits.false) in
+    let fits = encapsulate-fits_by k t (length old) left.is_public_length.ensures left.if-not-fits.false in
     let checked = made.encapsulate_records-e.ensures.answer_value in
     let bytes = made.encapsulate_records-e.ensures.c2_value in
     let answer = checked ∙ sym (ap (λ (b : Bool). unless b WrongLength (and_then (public_answer k) (triple_answer t))) fits) in record { value = answer; out_after = c.write_encapsulation.ensures ∙ ap₂ (λ (a : Answer) (x : List ℕ). on_done a x old) answer bytes }

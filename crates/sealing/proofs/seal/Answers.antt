@@ -36,7 +36,7 @@ write_sealed-requires c =
     let left = c in
     let args = left.args in
     let fits =
-    seal-fits_by args.key.now args.noise.now args.entry.now (length args.out.now) left.is_public_length.ensures (not-false _ left.if-not-fits.false) in
+    seal-fits_by args.key.now args.noise.now args.entry.now (length args.out.now) left.is_public_length.ensures left.if-not-fits.false in
     let (key, noise, entry, room) =
     (seal-fits args.key.now args.noise.now args.entry.now (length args.out.now)).0 fits in
     (entry, room)
@@ -51,7 +51,7 @@ returns c =
     let noise = args.noise.now in
     let entry = args.entry.now in
     let old = args.out.now in
-    let fits = seal-fits_by k noise entry (length old) left.is_public_length.ensures (not-false _ left.if-not-fits.false) in
+    let fits = seal-fits_by k noise entry (length old) left.is_public_length.ensures left.if-not-fits.false in
     let checked = made.encapsulate_noise-p.ensures.answer_value in
     let triple = made.encapsulate_noise-p.ensures.triple_value in
     let (c1, c2) = made.encapsulate_noise-p.ensures.c1_value in

@@ -35,14 +35,14 @@ write_seeded_key-requires c =
     let left = c in
     let args = left.args in
     let (seed, _, _, public, _) =
-    (seeded-keygen-fits args.seed.now args.s.now args.e.now (length args.public.now) (length args.secret.now)).0 (not-false _ left.if-not-fits.false) in
+    (seeded-keygen-fits args.seed.now args.s.now args.e.now (length args.public.now) (length args.secret.now)).0 left.if-not-fits.false in
     (seed, public)
 
 pub write_secret_key-requires : goal.write_secret_key-requires
 write_secret_key-requires c =
     let left = c in
     let args = left.args in
-    ((seeded-keygen-fits args.seed.now args.s.now args.e.now (length args.public.now) (length args.secret.now)).0 (not-false _ left.if-not-fits.false)).4
+    ((seeded-keygen-fits args.seed.now args.s.now args.e.now (length args.public.now) (length args.secret.now)).0 left.if-not-fits.false).4
 
 pub returns : goal.returns
 unfolding seeded_keygen_answer new_seeded_key new_secret_key seeded_keygen_public seeded_keygen_secret
@@ -56,7 +56,7 @@ returns c =
     let public = args.public.now in
     let secret = args.secret.now in
     let fits : eqb (length seed) 32 && eqb (length s) 512 && eqb (length e) 512 && eqb (length public) 2085 && eqb (length secret) 4357 ≡ true =
-    not-false _ left.if-not-fits.false in
+    left.if-not-fits.false in
     let checked = made.generate-g.ensures.answer_value in
     let (a, b) = made.generate-g.ensures.a_value in
     let t = made.generate-g.ensures.s_value in
