@@ -54,9 +54,9 @@ returns c =
     let secret = args.secret.now in
     let fits : eqb (length stream) 2688 && eqb (length s) 512 && eqb (length e) 512 && eqb (length public) 4101 && eqb (length secret) 4357 ≡ true =
     left.if-not-fits.false in
-    let checked = made.generate-g.ensures.value in
-    let (a, b) = made.generate-g.ensures.public_after in
-    let t = made.generate-g.ensures.secret_after in
+    let checked = made.generate-g.ensures.answer_value in
+    let (a, b) = made.generate-g.ensures.a_value in
+    let t = made.generate-g.ensures.s_value in
     let answer = checked ∙ sym (ap (λ (x : Bool). unless x WrongLength (generated_answer stream s e)) fits) in record { value = answer; public_after = c.write_public_key.ensures
             ∙ ap₂ (λ (x : Answer) (l : List ℕ). on_done x l public) answer (ap₂ (record_bytes public_key_mark 1) a b); secret_after = c.write_secret_key.ensures
             ∙ ap₂ (λ (x : Answer) (l : List ℕ). on_done x l secret) answer (ap₂ (λ (x y : List ℕ). x ++ y) (ap₂ (record_bytes secret_key_mark 1) a b) (ap ternary_bytes t)) }
