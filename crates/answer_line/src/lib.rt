@@ -1,4 +1,6 @@
 // The line of an answer: its number and, under Done, an entry in hexadecimal.
+#![tactic(auto)]
+
 ghost use Rattle.std.specs.Prelude.{◌≡◌, [], ◌∷◌, ◌≤◌, min, length};
 ghost use Rattle.lists.specs.Table.{zeros};
 ghost use Rattle.hexadecimal.specs.Hex.{text_of};

@@ -1,4 +1,6 @@
 // The functions that NIST's response files test, and the chain of their Monte files.
+#![tactic(auto)]
+
 ghost use Rattle.std.specs.Prelude.{◌≡◌, ◌+◌, ◌*◌, ◌≤◌, length};
 ghost use Rattle.monte_chain.specs.Monte.{output_of, least_size, greatest_size, output_size};
 ghost use Rattle.monte_chain.specs.Monte.{message_of, chain_of, turned, turns as Monte·turns};

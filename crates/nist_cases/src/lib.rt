@@ -1,4 +1,6 @@
 // The cases of NIST's byte-oriented response files: the verdict on the case that a text starts with.
+#![tactic(auto)]
+
 ghost use Rattle.std.specs.Prelude.{◌≡◌, ◌≤◌, length};
 ghost use Rattle.response_files.specs.Lines.{same};
 ghost use Rattle.monte_chain.specs.Monte.{output_of};

@@ -1,4 +1,6 @@
 // What is reported of a response file.
+#![tactic(auto)]
+
 ghost use Rattle.std.specs.Prelude.{◌≡◌};
 ghost use Rattle.nist_reports.specs.Reports.{after_case, next_chain, report_on, no_chain, first_chain, is_monte, report_plain, report_monte, report_of};
 

@@ -1,5 +1,7 @@
 // The text of NIST's response files: lines, numbers, fields in hexadecimal, and the lines before the first case. Every function takes
 // any bytes.
+#![tactic(auto)]
+
 ghost use Rattle.std.specs.Prelude.{◌≡◌, length};
 ghost use Rattle.lists.specs.First.{first_failing};
 ghost use Rattle.hexadecimal.specs.Hex.{decoded, written};

@@ -12,6 +12,7 @@ pub returns : goal.returns
 returns c =
     let encoded = c in
     let entry = encoded.args.entry in
-    let size : length (text_of entry) ≡ 32 = omega (arith, length_text entry, encoded.well_formed) in
+    let size : length (text_of entry) ≡ 32 = omega (arith, length_text entry) in
     let digits = encoded.encode.ensures ∙ written_whole (text_of entry) (zeros 32) size in
-    fits (ap (line_of 0) digits) (entry_fits_lem (text_of entry) size) c.line_of.ensures
+    let held = fits (ap (line_of 0) digits) (entry_fits_lem (text_of entry) size) (c.line_of.ensures.bytes_value, c.line_of.ensures.length_value) in
+    record { bytes_value = held.0; length_value = held.1 }

@@ -1,4 +1,4 @@
-use mathlib.Core.List.{◌∷◌}
+use mathlib.Core.List.{[], ◌∷◌}
 use Rattle.lists.specs.Table.{zeros}
 use Rattle.text.specs.Text.{decimal}
 use Rattle.text.proofs.Texts.{put_none, put_more}

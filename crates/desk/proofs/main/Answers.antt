@@ -8,4 +8,4 @@ pub slice_bounds-write_all-end : goal.slice_bounds-write_all-end
 slice_bounds-write_all-end c =
     let line = c.line_of_first-line in
     let size : length line.result.bytes ≡ 35 = search rules in
-    omega (arith, size, line.ensures.1.1)
+    omega (arith, size, line.ensures.length_value.1)

@@ -7,15 +7,15 @@ use Rattle.make_key.proofs.main.Goals as goal
 pub slice_bounds-write_all-end : goal.slice_bounds-write_all-end
 slice_bounds-write_all-end c =
     let made = c.make_key-printed in
-    omega (arith, made.auto.1.0, made.ensures.1.1.0.1)
+    omega (arith, made.auto.public, made.ensures.public_value.1)
 
 pub slice_bounds-write_all-end-2 : goal.slice_bounds-write_all-end-2
 slice_bounds-write_all-end-2 c =
     let made = c.make_key-printed in
-    omega (arith, made.auto.1.1.0, made.ensures.1.1.1.0.1)
+    omega (arith, made.auto.secret, made.ensures.secret_value.1)
 
 pub slice_bounds-write_all-end-3 : goal.slice_bounds-write_all-end-3
 slice_bounds-write_all-end-3 c =
     let made = c.make_key-printed in
     let size : length made.result.error.bytes ≡ 21 = search rules in
-    omega (arith, size, made.ensures.1.1.1.1.1.1.1)
+    omega (arith, size, made.ensures.length_value.1)

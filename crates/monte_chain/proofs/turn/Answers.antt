@@ -1,57 +1,52 @@
 use mathlib.Core.Path.{◌≡◌, sym, ap, ◌∙◌}
-use mathlib.Core.List.{◌++◌}
 use Prim.Native.Nat.{ℕ, ◌≤◌}
 use native.Mathlib.Omega.{arith}
 use lib.ListN.{length, take, drop, replicate, length-append}
 use lib.Seq.{length-take-le, take_at}
 use Rattle.lists.proofs.Zeros.{size-zeros}
-use Rattle.monte_chain.specs.Monte.{output_of, chain_of, turned}
+use Rattle.monte_chain.specs.declared.Function.{Function}
+use Rattle.monte_chain.specs.Monte.{output_of, output_size, chain_of, turned}
 use Rattle.monte_chain.proofs.Chains.{size_least, size-most}
 use Rattle.monte_chain.proofs.turn.Goals as goal
 
 -- the output has two bytes at least, and the buffer has room for it
-two : (c : goal.After-output_size-n) → 2 ≤ c.output_size-n.result
-two c = rw c.output_size-n.ensures (size_least c.args.function c.args.c.extra)
+two : (f : Function) (extra n : ℕ) → n ≡ output_size f extra → 2 ≤ n
+two f extra n e = rw e (size_least f extra)
 
-room : (c : goal.After-output_size-n) → c.output_size-n.result ≤ 250
-room c = rw c.output_size-n.ensures (size-most c.args.function c.args.c.extra)
+room : (f : Function) (extra n : ℕ) → n ≡ output_size f extra → n ≤ 250
+room f extra n e = rw e (size-most f extra)
 
 -- the part of the buffer that is lent has n bytes
-lent : (c : goal.After-output_size-n) → length {A = ℕ} (take c.output_size-n.result (replicate 250 0)) ≡ c.output_size-n.result
-lent c = length-take-le c.output_size-n.result (replicate 250 0) (omega (arith, size-zeros 250, room c))
-
-filled : (c : goal.After-put_output) → length c.put_output.new.1.1.0 ≡ c.output_size-n.result
-filled c = c.put_output.auto.1.1.0 ∙ lent c
-
-back : (c : goal.After-put_output)
-    → take c.output_size-n.result
-    (c.put_output.new.1.1.0 ++ drop c.output_size-n.result (replicate 250 0))
-    ≡ c.put_output.new.1.1.0
-back c = take_at c.put_output.new.1.1.0 _ c.output_size-n.result (filled c)
+lent : (n : ℕ) → n ≤ 250 → length {A = ℕ} (take n (replicate 250 0)) ≡ n
+lent n h = length-take-le n (replicate 250 0) (omega (arith, size-zeros 250, h))
 
 pub slice_bounds-output-end : goal.slice_bounds-output-end
-slice_bounds-output-end c = room (goal.at.slice_bounds-output-end c).After-output_size-n
+slice_bounds-output-end c = room _ _ _ c.output_size-n.ensures
 
 pub slice_bounds-put_output-end-2 : goal.slice_bounds-put_output-end-2
-slice_bounds-put_output-end-2 c = sym (lent (goal.at.slice_bounds-put_output-end-2 c).After-output_size-n)
+slice_bounds-put_output-end-2 c = sym (lent c.output_size-n.result (room _ _ _ c.output_size-n.ensures))
 
 pub slice_bounds-output-end-2 : goal.slice_bounds-output-end-2
-slice_bounds-output-end-2 c = rw length-append (omega (arith, filled (goal.at.slice_bounds-output-end-2 c).After-put_output))
+slice_bounds-output-end-2 c =
+    let filled : length c.put_output.new.output ≡ c.output_size-n.result = c.put_output.auto.output ∙ lent c.output_size-n.result (room _ _ _ c.output_size-n.ensures) in
+    rw length-append (omega (arith, filled))
 
 pub slice_bounds-chain_of-end : goal.slice_bounds-chain_of-end
-slice_bounds-chain_of-end c = sym (ap length (back (goal.at.slice_bounds-chain_of-end c).After-put_output) ∙ filled (goal.at.slice_bounds-chain_of-end c).After-put_output)
+slice_bounds-chain_of-end c =
+    let filled : length c.put_output.new.output ≡ c.output_size-n.result = c.put_output.auto.output ∙ lent c.output_size-n.result (room _ _ _ c.output_size-n.ensures) in
+    sym (ap length (take_at c.put_output.new.output _ c.output_size-n.result filled) ∙ filled)
 
 pub chain_of-requires : goal.chain_of-requires
 chain_of-requires c =
-    let put = c in
-    omega (arith, ap length (back put), filled put, two (goal.at.chain_of-requires c).After-output_size-n)
+    let filled : length c.put_output.new.output ≡ c.output_size-n.result = c.put_output.auto.output ∙ lent c.output_size-n.result (room _ _ _ c.output_size-n.ensures) in
+    omega (arith, ap length (take_at c.put_output.new.output (drop c.output_size-n.result (replicate 250 0)) c.output_size-n.result filled), filled, two _ _ _ c.output_size-n.ensures)
 
 pub returns : goal.returns
 unfolding turned
 returns c =
-    let put = c in
-    let called = put in
-    let args = called.args in
+    let n = c.output_size-n.result in
+    let lent_part = lent n (room _ _ _ c.output_size-n.ensures) in
+    let filled : length c.put_output.new.output ≡ n = c.put_output.auto.output ∙ lent_part in
     c.chain_of.ensures
     ∙ ap chain_of
-    (back put ∙ put.put_output.ensures ∙ ap (output_of args.function args.c.message) (lent called ∙ called.output_size-n.ensures))
+    (take_at c.put_output.new.output _ n filled ∙ c.put_output.ensures ∙ ap (output_of c.args.function c.args.c.message) (lent_part ∙ c.output_size-n.ensures))

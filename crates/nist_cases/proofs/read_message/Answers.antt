@@ -5,10 +5,10 @@ use Rattle.nist_cases.proofs.read_message.Goals as goal
 
 pub returns-then-bytes-eq0 : goal.returns-then-bytes-eq0
 unfolding is_message
-returns-then-bytes-eq0 c = rw (eq-eqb _ 0 c.if-bytes-eq0.true) (c.same.ensures, refl)
+returns-then-bytes-eq0 c = rw (eq-eqb _ 0 c.if-bytes-eq0.true) (record { value = c.same.ensures; out_after = refl })
 
 pub returns : goal.returns
 unfolding is_message
 returns c =
     let read = c in
-    rw (ne_eqb _ 0 read.if-bytes-eq0.false) (read.read_hex.ensures.value, read.read_hex.ensures.out_after)
+    rw (ne_eqb _ 0 read.if-bytes-eq0.false) (record { value = read.read_hex.ensures.value; out_after = read.read_hex.ensures.out_after })

@@ -1,19 +1,8 @@
-use mathlib.Core.Path.{◌≡◌, sym, ap, ◌∙◌}
-use mathlib.Core.Bool.{true}
-use lib.Dec.{eqb}
+use mathlib.Core.Path.{sym, ap, ◌∙◌}
 use borrow.Author.Tests.{eq-eqb, ne_eqb}
 use Rattle.response_files.specs.Fields.{is_hex}
-use Rattle.response_files.specs.Headers.{header_number}
-use Rattle.monte_chain.specs.Monte.{least_size}
-use Rattle.nist_reports.specs.Reports.{minimum_name, is_monte}
+use Rattle.nist_reports.specs.Reports.{is_monte}
 use Rattle.nist_reports.proofs.is_monte.Goals as goal
-
--- the first header gives the least size
-least : (c : goal.Else-header_number-least_size)
-    → eqb (header_number minimum_name c.args.text.now)
-    (least_size c.args.function)
-    ≡ true
-least c = eq-eqb _ _ (sym c.header_number.ensures ∙ c.if-header_number-least_size.false ∙ c.least_size.ensures)
 
 pub returns-then-header_number-least_size : goal.returns-then-header_number-least_size
 unfolding is_monte
@@ -24,7 +13,7 @@ pub returns-then-header_number-greatest_size : goal.returns-then-header_number-g
 unfolding is_monte
 returns-then-header_number-greatest_size c =
     rw (
-      least (goal.at.returns-then-header_number-greatest_size c).After-header_number-arg-3-1,
+      eq-eqb _ _ (sym c.header_number.ensures ∙ c.if-header_number-least_size.false ∙ c.least_size.ensures),
       ne_eqb _ _ (λ e. c.if-header_number-greatest_size.true (c.header_number-2.ensures ∙ e ∙ sym c.greatest_size.ensures)),
     )
 
@@ -33,5 +22,5 @@ unfolding is_monte
 returns c =
     let second = c in
     let greatest = sym second.header_number-2.ensures ∙ second.if-header_number-greatest_size.false ∙ second.greatest_size.ensures in
-    rw (least (goal.at.returns c).After-header_number-arg-4-1, eq-eqb _ _ greatest)
+    rw (eq-eqb _ _ (sym c.header_number.ensures ∙ c.if-header_number-least_size.false ∙ c.least_size.ensures), eq-eqb _ _ greatest)
     (c.read_hex.ensures.value ∙ ap (is_hex 16 16) c.value.ensures)

@@ -1,29 +1,14 @@
-use mathlib.Core.Bool.{cond}
-use lib.Dec.{eqb}
-use Rattle.response_files.specs.Lines.{line_at}
 use borrow.Author.Tests.{eq-eqb, ne_eqb}
 use mathlib.Core.Path.{◌≡◌, refl, sym, ap, ◌∙◌}
-use mathlib.Core.Logic.{⊎_elim}
-use Prim.Native.Nat.{◌+◌, ◌<◌}
+use Prim.Native.Nat.{◌<◌}
 use native.Mathlib.Omega.{arith}
 use lib.ListN.{length}
-use Rattle.vectors.specs.declared.Report.TheVariants.{Counts, MalformedLine}
+use Rattle.vectors.specs.declared.Report.TheVariants.{MalformedLine}
 use Rattle.response_files.proofs.Lines.{after-within}
 use Rattle.nist_reports.specs.Reports.{report_on}
 use Rattle.nist_reports.proofs.Cases.{case_shorter, report_end, report_blank, report-agreed, report-differed, report-malformed}
 use Rattle.nist_reports.proofs.judge_cases.Goals as goal
-
--- the report where nothing is left
-ended : (c : goal.After-loop-rest)
-    → report_on c.args.function c.args.kind
-    c.args.number c.args.c
-    c.args.text.now c.args.body.now
-    ≡ cond (eqb (c.loop-rest.agreed + c.loop-rest.differed) 0)
-    (MalformedLine (line_at 0 c.args.text.now))
-    (Counts c.loop-rest.agreed c.loop-rest.differed)
-ended c =
-    let none : length c.loop-rest.rest.now ≡ 0 = omega arith in
-    sym c.loop-rest.invariant.1 ∙ report_end _ _ _ _ _ _ _ _ none
+use Rattle.nist_reports.proofs.judge_cases.Goals.{in-Agreed, in-Differed}
 
 pub loop-rest-init : goal.loop-rest-init
 unfolding report_on
@@ -67,17 +52,19 @@ loop-rest-preserved c =
     let verdict = sym judged.judge_case.ensures in
     let so_far = at-loop.loop-rest.invariant.1 in
     rw (c.after_case-next.ensures, c.next_chain-chain.ensures)
-    (⊎_elim
-    (λ w. rw (w.2, w.3) (omega arith, sym (report-agreed _ _ _ _ _ _ _ _ some blank (verdict ∙ w.1.given.1)) ∙ so_far))
-    (λ w. rw (w.2, w.3) (omega arith, sym (report-differed _ _ _ _ _ _ _ _ some blank (verdict ∙ w.1.given.1)) ∙ so_far))
-    c.match-judge_case.branch)
+    (elim c.match-judge_case.branch [
+      | in-Agreed w ↦ rw (w.agreed-is, w.differed-is) (omega arith, sym (report-agreed _ _ _ _ _ _ _ _ some blank (verdict ∙ w.in-Agreed.is)) ∙ so_far)
+      | in-Differed w ↦ rw (w.agreed-is, w.differed-is) (omega arith, sym (report-differed _ _ _ _ _ _ _ _ some blank (verdict ∙ w.in-Differed.is)) ∙ so_far)
+    ])
 
 pub returns-then-agreed-differed-eq0 : goal.returns-then-agreed-differed-eq0
 returns-then-agreed-differed-eq0 c =
-    let none = sym (ended (goal.at.returns-then-agreed-differed-eq0 c).After-loop-rest) in
+    let empty : length c.loop-rest.rest.now ≡ 0 = omega arith in
+    let none = sym (report_end _ _ _ _ _ _ _ _ empty) ∙ c.loop-rest.invariant.1 in
     ap MalformedLine c.line_number-then-agreed-differed-eq0.ensures ∙ rw (eq-eqb _ 0 c.if-agreed-differed-eq0.true) at none
 
 pub returns : goal.returns
 returns c =
-    let none = sym (ended (goal.at.returns c).After-loop-rest) in
+    let empty : length c.loop-rest.rest.now ≡ 0 = omega arith in
+    let none = sym (report_end _ _ _ _ _ _ _ _ empty) ∙ c.loop-rest.invariant.1 in
     rw (ne_eqb _ 0 c.if-agreed-differed-eq0.false) at none

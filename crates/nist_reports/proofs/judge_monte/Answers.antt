@@ -1,5 +1,4 @@
 use mathlib.Core.Path.{sym, ap, ◌∙◌}
-use borrow.Author.Tests.{not-true, not-false}
 use Rattle.vectors.specs.declared.Report.TheVariants.{MalformedLine}
 use Rattle.nist_reports.specs.Reports.{report_monte}
 use Rattle.nist_reports.proofs.judge_monte.Goals as goal
@@ -7,7 +6,7 @@ use Rattle.nist_reports.proofs.judge_monte.Goals as goal
 pub returns-then-not-is_monte : goal.returns-then-not-is_monte
 unfolding report_monte
 returns-then-not-is_monte c =
-    rw (← c.body-body.ensures, sym c.is_monte.ensures ∙ not-true _ c.if-not-is_monte.true)
+    rw (← c.body-body.ensures, sym c.is_monte.ensures ∙ c.if-not-is_monte.true)
     (ap MalformedLine c.line_number.ensures)
 
 pub returns : goal.returns
@@ -15,7 +14,7 @@ unfolding report_monte
 returns c =
     rw (
       ← c.body-body.ensures,
-      sym c.is_monte.ensures ∙ not-false _ c.if-not-is_monte.false,
+      sym c.is_monte.ensures ∙ c.if-not-is_monte.false,
       ← c.value.ensures,
       ← c.first_chain-chain.ensures,
       ← c.after_line.ensures,

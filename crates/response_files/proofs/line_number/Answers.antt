@@ -1,5 +1,4 @@
 use mathlib.Core.Path.{◌≡◌, refl, ap, ◌∙◌}
-use mathlib.Core.Logic.{⊎_elim}
 use Prim.Native.Nat.{ℕ, ◌+◌, ◌-◌}
 use native.Mathlib.Omega.{arith}
 use lib.ListN.{length, take, length-take}
@@ -7,6 +6,7 @@ use borrow.Author.Tests.{eq-eqb, ne_eqb}
 use Rattle.response_files.specs.Lines.{feeds, line_at}
 use Rattle.response_files.proofs.Lines.{feeds-within, feeds_more}
 use Rattle.response_files.proofs.line_number.Goals as goal
+use Rattle.response_files.proofs.line_number.Goals.{then-text-i-eq10, else-text-i-eq10}
 
 pub loop-i-init : goal.loop-i-init
 unfolding feeds
@@ -26,10 +26,10 @@ loop-i-preserved c =
     let text = at-loop.args.text.now in
     let more = feeds_more i text (omega arith) in
     let line : c.if-text-i-eq10.line ≡ 1 + feeds (take (i + 1) text) =
-    ⊎_elim
-    (λ w. omega (arith, w.1, rw (eq-eqb _ 10 w.0.taken) at more))
-    (λ w. omega (arith, w.1, rw (ne_eqb _ 10 w.0.left) at more))
-    c.if-text-i-eq10.branch in
+    elim c.if-text-i-eq10.branch [
+      | then-text-i-eq10 w ↦ omega (arith, w.line-is, rw (eq-eqb _ 10 w.if-text-i-eq10.true) at more)
+      | else-text-i-eq10 w ↦ omega (arith, w.line-is, rw (ne_eqb _ 10 w.if-text-i-eq10.false) at more)
+    ] in
     (omega arith, line)
 
 pub returns : goal.returns

@@ -18,6 +18,9 @@ pub returns : goal.returns
 returns c =
     let called = c in
     let text = called.args.text.now in
-    let n = called.decode-n.result in record { value = hex_test _ _ _ n called.decode-n.ensures.value (eqb (length text) (2 * n))
+    let n = called.decode-n.result in record {
+      value = hex_test _ _ _ n called.decode-n.ensures.value (eqb (length text) (2 * n))
           (λ t. (omega arith, c.if-n-size.false, eqb-true (length text) (2 * n) t))
-          (λ o s p. eq-eqb (length text) (2 * n) p); out_after = called.decode-n.ensures.out_after }
+          (λ o s p. eq-eqb (length text) (2 * n) p);
+      out_after = called.decode-n.ensures.out_after;
+    }
