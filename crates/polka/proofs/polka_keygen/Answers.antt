@@ -5,5 +5,4 @@ use Rattle.polka.proofs.polka_keygen.Goals as goal
 pub returns : goal.returns
 returns c =
     let made = c.keygen-answer.ensures in
-    let all = (c.code.ensures ∙ ap code made.value, made.1) in
-    record { value = all.0; public_after = all.1.0; secret_after = all.1.1 }
+    record { value = c.code.ensures ∙ ap code made.value; public_after = made.public_after; secret_after = made.secret_after }

@@ -7,5 +7,5 @@ pub returns : goal.returns
 returns c =
     let made = c in
     let args = made.args in
-    let n = c.code.ensures ∙ ap code made.«open».ensures.value in
-    let out = made.«open».ensures.out_after in record { value = n; out_after = out; open_exact = open-export args.key.now args.sealed.now args.noise.now args.out.now n out }
+    let n = c.code.ensures ∙ ap code made.open-answer.ensures.value in
+    let out = made.open-answer.ensures.out_after in record { value = n; out_after = out; open_exact = open-export args.key.now args.sealed.now args.noise.now args.out.now n out }
