@@ -17,10 +17,12 @@ fn top() -> PathBuf {
     Path::new(env!("CARGO_MANIFEST_DIR")).join("..")
 }
 
-/// A crate and all that it uses, by the lines `NAME: USED..` of crates.txt. Where this package stands alone there are no sources.
+/// A crate and all that it uses, by the lines `NAME: USED..` and `NAME staticlib: USED..` of crates.txt. Where this package stands alone
+/// there are no sources.
 fn reached(name: &str) -> Vec<String> {
     let text = fs::read_to_string(top().join("crates.txt")).unwrap_or_default();
-    let uses = |name: &str| text.lines().find_map(|line| line.strip_prefix(name)?.strip_prefix(':')).unwrap_or("");
+    let used_by = |line: &'_ str, name: &str| line.strip_prefix(name).map(|rest| rest.strip_prefix(" staticlib").unwrap_or(rest).strip_prefix(':').map(str::to_string));
+    let uses = |name: &str| text.lines().find_map(|line| used_by(line, name).flatten()).unwrap_or_default();
     let mut all = vec![name.to_string()];
     let mut next = 0;
     while next < all.len() {
@@ -69,11 +71,11 @@ fn made(name: &str) -> Option<PathBuf> {
         println!("cargo:rerun-if-changed={}/not-made", env::var("OUT_DIR").unwrap());
         return None;
     }
-    let status = Command::new("rt").args(["staticlib", name]).current_dir(top()).status();
+    // the script runs `rt lib` in the crate and in those below it
+    let script = format!("top=$PWD; . tests/prove.sh; prove archive {name} {name}");
+    let status = Command::new("bash").args(["-c", &script]).current_dir(top()).status();
     if !status.is_ok_and(|status| status.success()) {
-        fail(&format!(
-            "lib{name}.a is missing or older than the sources, and `rt staticlib {name}` failed; POLKA_ARCHIVE names one to link as it is"
-        ));
+        fail(&format!("lib{name}.a is missing or older than the sources, and making it failed; POLKA_ARCHIVE names one to link as it is"));
     }
     if made.is_some() {
         println!("cargo:warning=target/staticlib/lib{name}.a was older than the sources: proved and made anew");

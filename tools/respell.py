@@ -25,6 +25,8 @@ CHOSEN = {"fits?": "is_fitting", "entryFits?": "entry_fits", "seeded?": "is_seed
 STEMS = {"getD": "get_or", "zipWith": "zip_with"}
 # crates named as a library of the kit
 CRATES = {"hex": "hexadecimal"}
+# modules imported under a name that the library has for something else
+ALIASES = {"Any": "AnySetting"}
 
 
 def files(root, want):
@@ -152,6 +154,18 @@ def crates(root):
                     f.write(n)
 
 
+def aliases(root):
+    for p in files(os.path.join(root, "crates"), lambda p: p.endswith((".antt", ".rt", ".edit"))):
+        t = read(p)
+        n = t
+        for old, new in ALIASES.items():
+            n = re.sub(rf"\bas {old}\b", f"as {new}", n)
+            n = re.sub(rf"(^|[^A-Za-z.]){old}\.(?=[\w])", rf"\g<1>{new}.", n, flags=re.M)
+        if n != t:
+            with open(p, "w", encoding="utf-8") as f:
+                f.write(n)
+
+
 def main(argv):
     root = os.path.abspath(".")
     names = table(root)
@@ -168,6 +182,7 @@ def main(argv):
         f.write("".join(f"{a}\t{b}\n" for a, b in sorted(names.items())))
     r = subprocess.run([sys.executable, SNAKE, "--table", where, os.path.join(root, "crates")])
     edits(root, names)
+    aliases(root)
     crates(root)
     print(f"respell: {len(names)} names")
     return r.returncode

@@ -1,4 +1,4 @@
-//! POLKA at 1,024 coefficients: safe Rust over the proved archive that `rt staticlib polka` writes.
+//! POLKA at 1,024 coefficients: safe Rust over the proved archive of the crate polka.
 //!
 //! A desk makes a key pair ([`keygen`], or [`keygen_from_seed`] for a public key half as long); a console seals 16-byte entries under the
 //! public key ([`seal`]); the desk opens them ([`open`]). A batch has up to 255 entries under one encapsulation ([`seal_batch`],
