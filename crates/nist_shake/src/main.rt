@@ -7,7 +7,12 @@ use std::io;
 use std::rt::Files;
 
 // Works through one file and prints its line.
-fn check_file(rt: &(impl Files + Print), function: Function, kind: Kind, name: &[u8]) -> io::Result<()> {
+fn check_file(
+    rt: &(impl Files + Print),
+    function: Function,
+    kind: Kind,
+    name: &[u8],
+) -> io::Result<()> {
     let mut buffer = vectors::file_buffer();
     let read = vectors::read_file(rt, name, &mut buffer);
     let report = nist_reports::judge_file(function, kind, vectors::read_bytes(read, &buffer));
@@ -15,12 +20,42 @@ fn check_file(rt: &(impl Files + Print), function: Function, kind: Kind, name: &
 }
 
 fn main(rt: HostRuntime) -> io::Result<()> {
-    check_file(&rt, Function::Shake128, Kind::Length, b"SHAKE128ShortMsg.rsp")?;
-    check_file(&rt, Function::Shake128, Kind::Length, b"SHAKE128LongMsg.rsp")?;
-    check_file(&rt, Function::Shake128, Kind::Output, b"SHAKE128VariableOut.rsp")?;
+    check_file(
+        &rt,
+        Function::Shake128,
+        Kind::Length,
+        b"SHAKE128ShortMsg.rsp",
+    )?;
+    check_file(
+        &rt,
+        Function::Shake128,
+        Kind::Length,
+        b"SHAKE128LongMsg.rsp",
+    )?;
+    check_file(
+        &rt,
+        Function::Shake128,
+        Kind::Output,
+        b"SHAKE128VariableOut.rsp",
+    )?;
     check_file(&rt, Function::Shake128, Kind::Monte, b"SHAKE128Monte.rsp")?;
-    check_file(&rt, Function::Shake256, Kind::Length, b"SHAKE256ShortMsg.rsp")?;
-    check_file(&rt, Function::Shake256, Kind::Length, b"SHAKE256LongMsg.rsp")?;
-    check_file(&rt, Function::Shake256, Kind::Output, b"SHAKE256VariableOut.rsp")?;
+    check_file(
+        &rt,
+        Function::Shake256,
+        Kind::Length,
+        b"SHAKE256ShortMsg.rsp",
+    )?;
+    check_file(
+        &rt,
+        Function::Shake256,
+        Kind::Length,
+        b"SHAKE256LongMsg.rsp",
+    )?;
+    check_file(
+        &rt,
+        Function::Shake256,
+        Kind::Output,
+        b"SHAKE256VariableOut.rsp",
+    )?;
     check_file(&rt, Function::Shake256, Kind::Monte, b"SHAKE256Monte.rsp")
 }
