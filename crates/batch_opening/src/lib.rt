@@ -1,5 +1,7 @@
 // The call of a desk that opens a batch (document 02, No. 4), which is lent a secret key. Buffers may have any length; under any answer but
 // Done the output is as it came, and under Done what stands behind the entries.
+#![tactic(auto)]
+
 ghost use Rattle.std.specs.Prelude.{◌≡◌, ◌≤◌, length};
 ghost use Rattle.answers.specs.Answers.{number, on_done};
 ghost use Rattle.keys.specs.Keys.{triple_noise_length};

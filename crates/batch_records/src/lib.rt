@@ -1,5 +1,7 @@
 // Batches as bytes (document 02, No. 4): their layout, their count and what it is answered by, and the front, written.
 // The calls test first that a batch holds its overhead, or has the length of its count.
+#![tactic(auto)]
+
 ghost use Rattle.std.specs.Prelude.{◌≡◌, ◌++◌, ◌+◌, ◌≤◌, length, take, drop};
 ghost use Rattle.records.specs.Layout.{sealed_entry_mark};
 ghost use Rattle.records.specs.Records.{record_bytes};

@@ -1,5 +1,7 @@
 // The call of a console that seals a batch (document 02, No. 4), which is lent a public key of either kind and whole entries. Buffers may
 // have any length; under any answer but Done the output is as it came.
+#![tactic(auto)]
+
 ghost use Rattle.std.specs.Prelude.{◌≡◌, ◌%◌, length};
 ghost use Rattle.scheme.specs.Answers as Struct;
 ghost use Rattle.answers.specs.Answers.{on_done};

@@ -1,4 +1,6 @@
 // The layers of the number theoretic transform modulo X^1024 + 1 and q = 59393, there and back: 512 butterflies each.
+#![tactic(auto)]
+
 ghost use Rattle.std.specs.Prelude.{◌≡◌, ◌<◌, length};
 ghost use Rattle.algebra.specs.Numbers.{Below};
 ghost use Rattle.twiddles.specs.Powers.{q, degree};

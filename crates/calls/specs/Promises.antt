@@ -1,7 +1,7 @@
 -- Demand 3: the key check and both openings answer by whether a triple exists, whatever dummy is mixed in. Then when 6 and 8 are
 -- said, untouched outputs, that equal a and b are sealed for alike, that records already made open, and round trips.
 use Rattle.std.specs.Prelude.{◌≡◌, true, List, ◌↔◌, ◌⊎◌, ℕ, ◌<◌, length, get_or}
-use Rattle.exactness.specs.Scheme as Any
+use Rattle.exactness.specs.Scheme as AnySetting
 use Rattle.ring.specs.Ring.{n, Invertible}
 use Rattle.scheme.specs.Scheme.{Triple, setting}
 use Rattle.sampling.specs.Noise.{noise_length}
@@ -27,11 +27,11 @@ use Rattle.calls.specs.Calls.{seal_answer, sealed_with, seal_out, open_answer, o
 
 -- t is a ternary triple
 abbrev pub Ternaries : Triple → Type 0
-Ternaries t = Any.TernaryTriple setting t
+Ternaries t = AnySetting.TernaryTriple setting t
 
 -- t is a ternary triple that the published formula, with a and b, turns into (c1, c2)
 abbrev pub Encapsulates : (a b c1 c2 : List ℕ) (t : Triple) → Type 0
-Encapsulates a b c1 c2 t = Any.Encapsulates setting a b c1 c2 t
+Encapsulates a b c1 c2 t = AnySetting.Encapsulates setting a b c1 c2 t
 
 abbrev pub HasTriple : (a b c1 c2 : List ℕ) → Type 0
 HasTriple a b c1 c2 = (t : Triple) × Encapsulates a b c1 c2 t

@@ -1,4 +1,6 @@
 // Answers and outputs of the cases of a public call: the buffers before the call, and when answer and outputs are what a case tells.
+#![tactic(auto)]
+
 ghost use Rattle.std.specs.Prelude.{◌≡◌, ◌≤◌};
 ghost use Rattle.lists.specs.Table.{zeros};
 ghost use Rattle.vectors.specs.Answers.{is_same};

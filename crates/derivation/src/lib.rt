@@ -1,5 +1,7 @@
 // Keys, keystream, body and tag of a triple of ternary polynomials: document 01, "Bytes", and of batches document 02, No. 4.
 // Nothing here branches on a secret or indexes by one.
+#![tactic(auto)]
+
 ghost use Rattle.std.specs.Prelude.{◌≡◌, ◌∷◌, ◌++◌, ◌%◌, ◌<◌, length};
 ghost use Rattle.gf128.specs.Bytes.{block};
 ghost use Rattle.triples.specs.Triple.{triple_bytes};

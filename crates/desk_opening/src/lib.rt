@@ -1,4 +1,6 @@
 // What the desk program answers, and the entry that it finds in an input of the right length. Its key is of version 1.
+#![tactic(auto)]
+
 ghost use Rattle.std.specs.Prelude.{◌≡◌, length};
 ghost use Rattle.lists.specs.Table.{zeros};
 ghost use Rattle.answers.specs.Answers.{on_done};

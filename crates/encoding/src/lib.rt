@@ -1,6 +1,8 @@
 // Ring elements, ternary polynomials and headers of records as bytes: document 01, "Bytes".
 // Every function takes bytes and buffers of any length. A decoder counts missing bytes as zeros; an encoder writes at the front of
 // its buffer, and leaves a buffer that is too short as it came. Nothing here branches on a secret coefficient or indexes by one.
+#![tactic(auto)]
+
 ghost use Rattle.std.specs.Prelude.{◌≡◌, [], ◌∷◌, ◌+◌, ◌*◌, ◌<◌, get_or};
 ghost use Rattle.ring.specs.Ring.{q};
 ghost use Rattle.encoding.specs.Words.{element_of, first_unreduced, element_bytes};

@@ -1,4 +1,6 @@
 // What the worked examples are made of: elements, records and streams.
+#![tactic(auto)]
+
 ghost use Rattle.std.specs.Prelude.{◌≡◌, ◌≤◌};
 ghost use Rattle.example_records.specs.Made.{term, constant, secret_key, public_key, encapsulation, sealed_entry, stream};
 

@@ -1,5 +1,7 @@
 // The calls that check a secret key and that make keys from a stream. Buffers may have any length; under any answer but Done every
 // output is as it came.
+#![tactic(auto)]
+
 ghost use Rattle.std.specs.Prelude.{◌≡◌, length};
 ghost use Rattle.answers.specs.Answers.{number, on_done};
 ghost use Rattle.records.specs.Layout.{public_key_length, secret_key_length};

@@ -1,5 +1,7 @@
 // The calls that convert a secret key from one version to the other (document 02, No. 5). Buffers may have any length; under any answer but
 // Done the output is as it came.
+#![tactic(auto)]
+
 ghost use Rattle.std.specs.Prelude.{◌≡◌, ◌≤◌, length};
 ghost use Rattle.ntt.specs.Spectrum.{spectrum_of};
 ghost use Rattle.ntt.specs.Factors.{forward_factors, backward_factors};

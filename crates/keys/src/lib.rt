@@ -1,4 +1,6 @@
 // New keys, from a stream, and triples, from noise.
+#![tactic(auto)]
+
 ghost use Rattle.std.specs.Prelude.{◌≡◌, length};
 ghost use Rattle.sampling.specs.Noise.{ternary_noise};
 ghost use Rattle.sampling.specs.Stream.{uniform_element};

@@ -1,6 +1,6 @@
 -- Bits of numbers: what the operations on words do to each bit.
 use mathlib.Core.Path.{◌≡◌, refl, sym, ap, ap₂, ◌∙◌}
-use Prim.Native.Nat.{ℕ, zero, suc, ◌+◌, ◌*◌, ◌-◌, ◌/◌, ◌%◌, ◌^◌, ◌<◌, ◌≤◌, min, max}
+use Prim.Native.Nat.{ℕ, zero, suc, ◌+◌, ◌*◌, ◌-◌, ◌/◌, ◌%◌, ◌^◌, ◌<◌, ◌≤◌, min}
 use native.Mathlib.Nat.{mod-lt, pow-suc, add-mul-div_right, mul-le-mul_right, mul-sub, mul_comm, add-zero, mod-eq_of_lt, mod-eq-sub-mod, mul-mod_left}
 use native.Mathlib.Decide.{dec_lt}
 use lib.Pow.{pow_pos, pow-add, shr-shr, split, high, shr_lt, shl-shr, ones_split, mod-pow-add}

@@ -1,13 +1,13 @@
 -- The invariant of every loop that writes a list into a buffer from the front: by one entry a turn, or by a part of several.
 use mathlib.Core.Path.{◌≡◌, refl, sym, ap, ap₂, ◌∙◌}
-use mathlib.Core.List.{List, [], ◌∷◌, ◌++◌, append_assoc}
-use Prim.Native.Nat.{ℕ, zero, suc, ◌+◌, ◌-◌, ◌<◌, ◌≤◌}
+use mathlib.Core.List.{List, ◌++◌, append_assoc}
+use Prim.Native.Nat.{ℕ, suc, ◌+◌, ◌-◌, ◌<◌, ◌≤◌}
 use native.Mathlib.Numerals.{add-one}
 use native.Mathlib.Omega.{arith}
-use lib.ListN.{length, get_or, take, drop, set, take-append-drop, length-append, length-take, length-drop, length-set}
+use lib.ListN.{length, get_or, take, drop, set, take-append-drop, length-append, length-drop, length-set}
 use lib.Seq.{get_or-take, take-set-le, take-set-lt, drop-set-add, drop-set-lt, take-suc, take-suc-set, take_all, take-add, take_at, drop-drop, length-take-le, take-length, set_at, append_snoc}
 use Rattle.lists.specs.Table.{table, zeros}
-use Rattle.lists.proofs.Tables.{length-table, get_or-table}
+use Rattle.lists.proofs.Tables.{get_or-table}
 
 -- The first i of the n entries of s stand at the front of the buffer `out`. What stands behind them is open, so the
 -- invariant never names what the buffer held at the start.

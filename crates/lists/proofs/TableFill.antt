@@ -1,12 +1,10 @@
 -- General laws: tables whose entries are zero from some place on, loops that fill a table by several entries a turn, and scans that
 -- leave out a tail which passes.
 use mathlib.Core.Path.{◌≡◌, sym, ap, subst, ◌∙◌}
-use mathlib.Core.Bool.{Bool, true}
 use mathlib.Core.List.{List, ◌++◌}
 use Prim.Native.Nat.{ℕ, ◌+◌, ◌-◌, ◌<◌, ◌≤◌}
 use native.Mathlib.Omega.{arith}
-use lib.ListN.{length, get_or, drop, set, length-drop}
-use lib.Seq.{get_or-drop}
+use lib.ListN.{set}
 use Rattle.lists.specs.Table.{table, zeros}
 use Rattle.lists.proofs.Tables.{length-table, get_or-table, table-append}
 use Rattle.lists.proofs.Zeros.{zeros-table}

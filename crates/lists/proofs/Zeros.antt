@@ -1,8 +1,7 @@
 -- Runs of zeros: at the end of a list they do not show where a missing entry counts as zero.
-use mathlib.Core.Path.{◌≡◌, refl, sym, ap, ◌∙◌}
+use mathlib.Core.Path.{◌≡◌, refl, sym, ◌∙◌}
 use mathlib.Core.List.{List, [], ◌∷◌, ◌++◌}
-use Prim.Native.Nat.{ℕ, zero, suc, ◌+◌, ◌<◌, ◌≤◌}
-use native.Mathlib.Omega.{arith}
+use Prim.Native.Nat.{ℕ, zero, suc, ◌+◌, ◌<◌}
 use lib.ListN.{length, get_or, length-replicate, get_or-replicate, replicate-append-replicate}
 use Rattle.lists.specs.Table.{table, zeros}
 use Rattle.lists.proofs.Tables.{table_is}

@@ -1,4 +1,6 @@
 // The margin of a link (document 02, No. 7): how large the quotients w of m = E2 + 5 × w are.
+#![tactic(auto)]
+
 ghost use Rattle.std.specs.Prelude.{◌≡◌, nat_abs};
 ghost use Rattle.margins.specs.Largest.{largest_size};
 

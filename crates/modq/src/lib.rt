@@ -1,4 +1,6 @@
 // Arithmetic modulo q = 59,393. Every u16 is taken, as its residue, but where a name or a contract says reduced; every result is below q.
+#![tactic(auto)]
+
 ghost use Rattle.std.specs.Prelude.{◌≡◌, ◌*◌, ◌/◌, ◌%◌, ◌<◌, ◌≤◌};
 ghost use Rattle.algebra.specs.Numbers.{add_mod, sub_mod, mul_mod};
 ghost use Rattle.modq.specs.Modulus.{q, reciprocal_of};

@@ -2,7 +2,7 @@
 -- is the spectrum of the plain product.
 use mathlib.Core.Path.{◌≡◌, refl, sym, ap, ap₂, ◌∙◌}
 use mathlib.Core.List.{List, [], ◌∷◌, map, zip_with}
-use Prim.Native.Nat.{ℕ, ◌+◌, ◌-◌, ◌*◌, ◌%◌, ◌<◌}
+use Prim.Native.Nat.{ℕ, ◌+◌, ◌*◌, ◌%◌, ◌<◌}
 use native.Mathlib.Nat.{mod-mod, mod-add-mod}
 use native.Mathlib.Omega.{arith}
 use lib.ListN.{length, get_or, length-map}
@@ -11,7 +11,7 @@ use Rattle.lists.proofs.Maps.{get_d_map}
 use Rattle.algebra.specs.Transform.{backward}
 use Rattle.algebra.specs.Halving.{reversed}
 use Rattle.algebra.specs.Numbers.{mul_mod, value_mod, Element, reduced, scale, product, backward_mod}
-use Rattle.algebra.specs.Negacyclic.{NegacyclicRoot, spectrum, from_spectrum}
+use Rattle.algebra.specs.Negacyclic.{spectrum, from_spectrum}
 use Rattle.algebra.proofs.Residues.{ℤ/}
 use Rattle.algebra.proofs.Numbers.{residues_injective}
 use Rattle.algebra.proofs.Elements as El

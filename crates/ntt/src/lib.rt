@@ -1,5 +1,7 @@
 // The number theoretic transform of polynomials modulo X^1024 + 1 and q = 59393, on arrays of any u16 words.
 // The degree and the tables that the transforms are lent are those of crate twiddles.
+#![tactic(auto)]
+
 ghost use Rattle.std.specs.Prelude.{◌≡◌};
 ghost use Rattle.algebra.specs.Numbers.{mul_mod, Below, reduced, scale};
 ghost use Rattle.ntt.specs.Spectrum.{q, degree, inverse_degree, spectrum_of, coefficients_of, pointwise};

@@ -1,4 +1,6 @@
 // Bytes as words and blocks, and how much of what is lent is read: what several crates need and the kit has no function for.
+#![tactic(auto)]
+
 ghost use Rattle.std.specs.Prelude.{◌≡◌, ◌+◌, ◌≤◌, min, length, get_or};
 ghost use Rattle.octets.specs.Words.{join8, word64_at};
 

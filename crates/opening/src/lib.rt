@@ -1,4 +1,6 @@
 // The calls of a desk that open, which is lent a secret key. Buffers may have any length; under any answer but Done every output is as it came.
+#![tactic(auto)]
+
 ghost use Rattle.std.specs.Prelude.{◌≡◌, ◌++◌, ◌%◌, ◌≤◌, length};
 ghost use Rattle.derivation.specs.Derivation.{under_keystream};
 ghost use Rattle.answers.specs.Answers.{number, on_done};

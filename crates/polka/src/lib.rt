@@ -1,6 +1,8 @@
 // What a console and a desk link: each public call for C. A slice is a pointer and a length, buffers may have any length, and the answer is
 // a code that holds number and location, 0 where the call is done; under any other every output is as it came. The definitions that the
 // contracts cite stand in crates calls, batch_calls, conversion_calls, margin_calls and answers.
+#![tactic(auto)]
+
 ghost use Rattle.std.specs.Prelude.{◌≡◌, length};
 ghost use Rattle.shake.specs.Shake.{shake128, shake256};
 ghost use Rattle.answers.specs.Locations.{code};

@@ -1,5 +1,7 @@
 // Public keys read off the bytes that a call was lent: checked in the order of documents 01 and 02, and prepared for the scheme. The length
 // picks the record. The calls test every length first, so the readers are lent a buffer of one of the two lengths.
+#![tactic(auto)]
+
 ghost use Rattle.std.specs.Prelude.{◌≡◌, true, length};
 ghost use Rattle.ntt.specs.Spectrum.{spectrum_of};
 ghost use Rattle.ntt.specs.Factors.{forward_factors};

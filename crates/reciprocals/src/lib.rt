@@ -1,5 +1,7 @@
 // Many reciprocals modulo q = 59,393 for the price of one: a tree of products, the reciprocal of its top, and the way back down.
 // Every word is taken as its residue modulo q.
+#![tactic(auto)]
+
 ghost use Rattle.std.specs.Prelude.{◌≡◌, ◌≤◌, length, drop};
 ghost use Rattle.ntt.specs.Spectrum.{degree};
 ghost use Rattle.reciprocals.specs.Reciprocals.{has_zero, reciprocals_of, are_reciprocals};

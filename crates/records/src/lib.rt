@@ -2,6 +2,8 @@
 // and sealed entries share, read and written. Document 01's keys are written here; seeded_records, sealed_records, batch_records and triples have
 // the other records.
 // The calls test every length first, so the functions here are lent buffers of the record's length.
+#![tactic(auto)]
+
 ghost use Rattle.std.specs.Prelude.{◌≡◌, ◌++◌, ◌≤◌, length, drop};
 ghost use Rattle.encoding.specs.Words.{first_unreduced};
 ghost use Rattle.records.specs.Layout.{public_key_length, secret_key_length, third_place};

@@ -1,5 +1,7 @@
 // Openings of what was read: a secret key, from whatever source, an encapsulation, bare or of a sealed entry or a batch, and a dummy. Every
 // answer is worked out before they are joined in document 01's order; where no triple is found the triple is zeros.
+#![tactic(auto)]
+
 ghost use Rattle.std.specs.Prelude.{◌≡◌, ◌++◌, ◌%◌, length};
 ghost use Rattle.ntt.specs.Factors.{forward_factors, backward_factors};
 ghost use Rattle.recovery.specs.Outcomes.{as_triple, answered, outcome_by, quotients_by, decapsulated_by, opened_by, triple_key0};

@@ -1,4 +1,6 @@
 // When a case of a word's remainder agrees: its centred value, and the remainder and the quotient of that by 5.
+#![tactic(auto)]
+
 ghost use Rattle.std.specs.Prelude.{◌≡◌};
 ghost use Rattle.remainder_cases.specs.Remainders.{signed, is_same_integer, integers_agree, remainder_agrees};
 

@@ -10,7 +10,7 @@ use lib.IntN.{ℤ, pos, negsuc, neg_ℤ, nat_abs, ◌+ℤ◌, ◌*ℤ◌, neg_�
 use lib.ListN.{length, get_or}
 use Rattle.lists.proofs.Tables.{length-table, get_or-table}
 use Rattle.ring.specs.Ring.{n}
-use Rattle.ring.specs.Centred.{centred, residue, around_zero, centred_remainder, centred_quotient, remainder_of, quotient_of, remainders, quotients}
+use Rattle.ring.specs.Centred.{centred, around_zero, centred_remainder, centred_quotient, remainder_of, quotient_of, remainders, quotients}
 use Rattle.ring.specs.Division.{DivisionExact}
 use Rattle.ring.proofs.Integers.{sub_down, abs_neg, multiple-neg}
 use Rattle.ring.proofs.Centring.{centred-bound, centred-residue}

@@ -1,7 +1,7 @@
 -- The remainder by 5 between - 2 and 2: bounds, and that it is the only one.
-use mathlib.Core.Path.{◌≡◌, refl, sym, ap, ap₂, ◌∙◌}
+use mathlib.Core.Path.{◌≡◌, refl, sym, ap, ◌∙◌}
 use mathlib.Core.List.{List}
-use Prim.Native.Nat.{ℕ, zero, suc, ◌+◌, ◌-◌, ◌*◌, ◌/◌, ◌%◌, ◌<◌, ◌≤◌}
+use Prim.Native.Nat.{ℕ, zero, suc, ◌+◌, ◌-◌, ◌*◌, ◌%◌, ◌<◌, ◌≤◌}
 use native.Mathlib.Nat.{mod-eq_of_lt, le_trans}
 use native.Mathlib.Decide.{dec_le}
 use native.Mathlib.Omega.{arith}
@@ -14,7 +14,7 @@ use Rattle.algebra.specs.Size.{magnitude}
 use Rattle.algebra.proofs.Numbers.{element-table}
 use Rattle.ring.specs.Ring.{q, n, Element}
 use Rattle.ring.specs.Centred.{centred, residue, around_zero, centred_remainder, remainder_of, remainders, Within}
-use Rattle.ring.proofs.Integers.{minus-up, sub_down, abs_neg, abs-plus, abs-multiple, multiple-neg}
+use Rattle.ring.proofs.Integers.{minus-up, sub_down, abs_neg, abs-plus, abs-multiple}
 use Rattle.ring.proofs.Centring.{centred-same, centred-size, residue-below, residue-centred, centred-residue, residue-combination}
 
 -- ---- 0, 1, 2, 3, 4

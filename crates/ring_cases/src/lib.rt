@@ -1,4 +1,6 @@
 // The cases of products, inverses and remainders of the ring: when one agrees, and the report on a text of them.
+#![tactic(auto)]
+
 ghost use Rattle.std.specs.Prelude.{◌≡◌};
 ghost use Rattle.ntt.specs.Factors.{forward_factors, backward_factors};
 ghost use Rattle.encoding.specs.Words.{element_of};

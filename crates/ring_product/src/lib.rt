@@ -1,4 +1,6 @@
 // The product of the ring over bytes, for C: no call of crate `polka` is a product alone, and the benchmark times one.
+#![tactic(auto)]
+
 ghost use Rattle.std.specs.Prelude.{◌≡◌};
 ghost use Rattle.ring_product.specs.Product.{product_number, product_out};
 

@@ -1,5 +1,7 @@
 // Polynomials from random bytes: document 01, "Desk key", and for the four bits document 02, No. 1 and 6. `ternary` and `uniform` take bytes
 // of any length.
+#![tactic(auto)]
+
 ghost use Rattle.std.specs.Prelude.{◌≡◌, map, ◌%◌, length};
 ghost use Rattle.lists.specs.Table.{table};
 ghost use Rattle.ring.specs.Ring.{n};

@@ -4,7 +4,7 @@ use mathlib.Core.Bool.{Bool, true, false, ◌&&◌, true≢false, false≢true}
 use mathlib.Core.List.{List}
 use Prim.Native.Nat.{ℕ}
 use lib.ListN.{length}
-use Rattle.exactness.specs.Scheme as Any
+use Rattle.exactness.specs.Scheme as AnySetting
 use Rattle.exactness.specs.Scheme.{provided}
 use Rattle.ntt.specs.Spectrum.{spectrum_of, coefficients_of, pointwise}
 use Rattle.ntt.proofs.Spectrum.{length-spectrum, length-pointwise, coefficients_of-spectrum}
@@ -12,7 +12,7 @@ use Rattle.ring.specs.Ring.{n, fifth, sum, difference, multiple, product}
 use Rattle.ring.proofs.RingLaws.{sum-element, difference-element, multiple-element, sum_swapped}
 use Rattle.ring.proofs.Transforms.{product_by-spectra, left_through, right_through}
 use Rattle.ring.proofs.Spectra.{difference-reduced, coefficients_through, spectrum_through, coefficients_of-sum, coefficients_of-difference, coefficients_of-multiple}
-use Rattle.scheme.specs.Scheme.{Triple, Outcome, found, failed, key_error, masked, summed, phase, core, decapsulation, recovered, recovers, without_dummy, is_ternary, judged, step2}
+use Rattle.scheme.specs.Scheme.{Triple, found, failed, key_error, masked, summed, phase, core, decapsulation, recovered, recovers, without_dummy, is_ternary, judged, step2}
 
 -- triples are known by their parts
 pub triple-same : {t u : Triple} → t.r ≡ u.r → t.e1 ≡ u.e1 → t.e2 ≡ u.e2 → t ≡ u
@@ -25,13 +25,13 @@ triple-same {t} {u} r e1 e2 =
 -- a × r + e, from the spectrum v of r
 pub masked_by-spectra : (a r e v p x : List ℕ) → length r ≡ n → v ≡ spectrum_of r → p ≡ product (coefficients_of a) (coefficients_of v) → x ≡ sum p e
     → x ≡ masked (coefficients_of a) r e
-unfolding Any.masked
+unfolding AnySetting.masked
 masked_by-spectra a r e v p x size ev ep ex =
     ex ∙ ap (λ (y : List ℕ). sum y e) (ep ∙ ap (λ (w : List ℕ). product (coefficients_of a) (coefficients_of w)) ev ∙ right_through (coefficients_of a) r size)
 
 -- b ÷ 5 - a × s, from the spectra of a and s
 pub error_through : (a b s : List ℕ) → length a ≡ n → length s ≡ n → key_error (coefficients_of (spectrum_of a)) b (coefficients_of (spectrum_of s)) ≡ key_error a b s
-unfolding Any.key_error
+unfolding AnySetting.key_error
 error_through a b s ha hs = ap (difference (multiple fifth b)) (left_through a (coefficients_of (spectrum_of s)) ha ∙ right_through a s hs)
 
 -- ---- decapsulation, with the sums as spectra
@@ -39,7 +39,7 @@ error_through a b s ha hs = ap (difference (multiple fifth b)) (left_through a (
 -- step 1: c + (a × r + e), from the spectra v of r and w of c + e
 pub summed_by-spectra : (a r e c v w p x : List ℕ) → length a ≡ n → length r ≡ n → v ≡ spectrum_of r → w ≡ spectrum_of (sum c e) → p ≡ pointwise a v → x ≡ sum p w
     → x ≡ spectrum_of (summed (coefficients_of a) r e c)
-unfolding Any.summed Any.masked
+unfolding AnySetting.summed AnySetting.masked
 summed_by-spectra a r e c v w p x ha hr ev ew ep ex =
     let v' = spectrum_of r in
     let size = length-spectrum r hr in
@@ -52,7 +52,7 @@ summed_by-spectra a r e c v w p x ha hr ev ew ep ex =
 
 -- step 2: m = s2 - 5 × p
 pub phase_by-spectra : (v p : List ℕ) → length v ≡ n → length p ≡ n → coefficients_of (difference v (multiple 5 p)) ≡ phase (coefficients_of v) (coefficients_of p)
-unfolding Any.phase
+unfolding AnySetting.phase
 phase_by-spectra v p hv hp =
     coefficients_of-difference v (multiple 5 p) hv (multiple-element 5 p).size ∙ ap (difference (coefficients_of v)) (coefficients_of-multiple 5 p hp)
 
@@ -74,17 +74,17 @@ e1_by-spectra a v r ha hv hr =
 
 -- the sums are elements
 pub summed_through : (a r e c : List ℕ) → coefficients_of (spectrum_of (summed a r e c)) ≡ summed a r e c
-unfolding Any.summed
+unfolding AnySetting.summed
 summed_through a r e c = coefficients_through _ (sum-element c (masked a r e))
 
 pub summed-size : (a r e c v : List ℕ) → v ≡ spectrum_of (summed a r e c) → length v ≡ n
-unfolding Any.summed
+unfolding AnySetting.summed
 summed-size a r e c v h = ap length h ∙ length-spectrum _ (sum-element c (masked a r e)).size
 
 -- the two tests
 judged_by : (dummy t : Triple) (x y : Bool) → recovers t ≡ x → is_ternary (without_dummy dummy t) ≡ y
     → judged dummy t ≡ provided x (provided y (found (without_dummy dummy t)))
-unfolding Any.judged
+unfolding AnySetting.judged
 judged_by dummy t x y ex ey = ap₂ (λ (x y : Bool). provided x (provided y (found (without_dummy dummy t)))) ex ey
 
 pub judged-found : (dummy t : Triple) → recovers t && is_ternary (without_dummy dummy t) ≡ true → judged dummy t ≡ found (without_dummy dummy t)
@@ -106,11 +106,11 @@ judged-failed dummy t h = by (recovers t) (is_ternary (without_dummy dummy t)) r
 -- ---- a key that went through its spectra and back is the same key: its elements stand only in products
 
 pub masked_through : (x : List ℕ) → length x ≡ n → (r e : List ℕ) → masked (coefficients_of (spectrum_of x)) r e ≡ masked x r e
-unfolding Any.masked
+unfolding AnySetting.masked
 masked_through x size r e = ap (λ (y : List ℕ). sum y e) (left_through x r size)
 
 summed_by-key : (x : List ℕ) → length x ≡ n → (r e c : List ℕ) → summed (coefficients_of (spectrum_of x)) r e c ≡ summed x r e c
-unfolding Any.summed
+unfolding AnySetting.summed
 summed_by-key x size r e c = ap (sum c) (masked_through x size r e)
 
 -- m of step 2
@@ -123,7 +123,7 @@ step2_through a b s ha hb hs dummy c1 c2 =
 
 module _ (a b i s : List ℕ) (ha : length a ≡ n) (hb : length b ≡ n) (hi : length i ≡ n) (hs : length s ≡ n) where
   recovered_through : (s1 s2 e2 : List ℕ) → recovered (coefficients_of (spectrum_of a)) (coefficients_of (spectrum_of i)) s1 s2 e2 ≡ recovered a i s1 s2 e2
-  unfolding Any.recovered Any.recovered_r Any.recovered_e1
+  unfolding AnySetting.recovered AnySetting.recovered_r AnySetting.recovered_e1
   recovered_through s1 s2 e2 =
       let r = right_through (difference s2 e2) i hi in
       triple-same r (ap (difference s1) (left_through a _ ha ∙ ap (product a) r)) refl
@@ -131,7 +131,7 @@ module _ (a b i s : List ℕ) (ha : length a ≡ n) (hb : length b ≡ n) (hi : 
   pub decapsulation_through : (dummy : Triple) (c1 c2 : List ℕ)
       → decapsulation (coefficients_of (spectrum_of a)) (coefficients_of (spectrum_of b)) (coefficients_of (spectrum_of i)) (coefficients_of (spectrum_of s)) dummy c1 c2
       ≡ decapsulation a b i s dummy c1 c2
-  unfolding Any.decapsulation Any.core
+  unfolding AnySetting.decapsulation AnySetting.core
   decapsulation_through dummy c1 c2 =
       ap₂ (λ (s1 s2 : List ℕ). core (coefficients_of (spectrum_of a)) (coefficients_of (spectrum_of i)) dummy s1 s2 (product s1 (coefficients_of (spectrum_of s))))
       (summed_by-key a ha dummy.r dummy.e1 c1) (summed_by-key b hb dummy.r dummy.e2 c2)

@@ -1,5 +1,7 @@
 // The scheme of document 01 on ring elements, by value. The elements of a key are given by their spectra: the element with the spectrum v
 // is `coefficients_of v`. The tables of factors are lent.
+#![tactic(auto)]
+
 ghost use Rattle.std.specs.Prelude.{◌≡◌};
 ghost use Rattle.std.proofs.Math.Bool.{decide};
 ghost use Rattle.ntt.specs.Spectrum.{spectrum_of, coefficients_of};

@@ -1,5 +1,7 @@
 // What is sealed to a key, as bytes: sealed entries and encapsulations, read and written.
 // The calls test every length first, so the functions here are lent buffers of the record's length.
+#![tactic(auto)]
+
 ghost use Rattle.std.specs.Prelude.{◌≡◌, ◌≤◌, length};
 ghost use Rattle.answers.specs.declared.EncapsulationRecord.TheVariants as Kind;
 ghost use Rattle.records.specs.Layout.{third_place, sealed_entry_length, encapsulation_length};

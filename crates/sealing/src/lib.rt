@@ -1,5 +1,7 @@
 // The calls of a console, which is lent a public key of either kind. Buffers may have any length; under any answer but Done every output
 // is as it came.
+#![tactic(auto)]
+
 ghost use Rattle.std.specs.Prelude.{◌≡◌, true, length};
 ghost use Rattle.ntt.specs.Spectrum.{coefficients_of};
 ghost use Rattle.ntt.specs.Factors.{forward_factors, backward_factors};

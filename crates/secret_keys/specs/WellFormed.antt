@@ -1,6 +1,6 @@
 -- When a secret key of either version is well formed and sound, and which of its words is named where one is q or more.
 use Rattle.std.specs.Prelude.{◌≡◌, Bool, true, false, ◌⊎◌, List, ℕ, length}
-use Rattle.exactness.specs.Scheme as Any
+use Rattle.exactness.specs.Scheme as AnySetting
 use Rattle.ring.specs.Ring.{one, product, Invertible}
 use Rattle.scheme.specs.Scheme.{setting}
 use Rattle.encoding.specs.Header.{has_mark, version_of}
@@ -29,7 +29,7 @@ UnitAs true k = InverseStored k
 
 -- b = 5 (a × s + e) for some ternary e
 abbrev pub Matches : (key : List ℕ) → Type 0
-Matches k = Any.Matches setting (first_of k) (second_of k) (secret_of k)
+Matches k = AnySetting.Matches setting (first_of k) (second_of k) (secret_of k)
 
 -- ---- length, mark and version
 

@@ -1,5 +1,7 @@
 // Secret keys of either version read off the bytes that a call was lent: checked in the order of documents 01 and 02, and prepared for the
 // scheme. The version sets the length. A record whose mark, version or length are refused is not read: its elements are zeros.
+#![tactic(auto)]
+
 ghost use Rattle.std.specs.Prelude.{◌≡◌, true, not, ◌≤◌, eqb, length};
 ghost use Rattle.ntt.specs.Spectrum.{spectrum_of};
 ghost use Rattle.ring.specs.Reciprocals.{has_zero};

@@ -1,4 +1,6 @@
 // Key generation from a seed: document 02, No. 2. Buffers may have any length; under any answer but Done every output is as it came.
+#![tactic(auto)]
+
 ghost use Rattle.std.specs.Prelude.{◌≡◌, length};
 ghost use Rattle.sampling.specs.Noise.{ternary_noise};
 ghost use Rattle.seeds.specs.Seeds.{seed_stream, seed_element};

@@ -1,5 +1,7 @@
 // Seeded public keys as bytes: document 02, No. 2.
 // The calls test every length first, so the functions here are lent buffers of the record's length.
+#![tactic(auto)]
+
 ghost use Rattle.std.specs.Prelude.{◌≡◌, length};
 ghost use Rattle.encoding.specs.Words.{first_unreduced};
 ghost use Rattle.answers.specs.declared.KeyRecord.TheVariants.{SeededPublicKey};

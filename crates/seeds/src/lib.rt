@@ -1,4 +1,6 @@
 // The a of a seeded public key: document 02, No. 2. A seed may have any length.
+#![tactic(auto)]
+
 ghost use Rattle.std.specs.Prelude.{◌≡◌, length};
 ghost use Rattle.sampling.specs.Stream.{taken};
 ghost use Rattle.seeds.specs.Seeds.{seed_stream, seed_element};

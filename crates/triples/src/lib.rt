@@ -1,4 +1,6 @@
 // A triple of ternary polynomials as bytes: what the check of its codes answers, its parts, and how it is written.
+#![tactic(auto)]
+
 ghost use Rattle.std.specs.Prelude.{◌≡◌, length};
 ghost use Rattle.scheme.specs.Answers as Struct;
 ghost use Rattle.encoding.specs.Buffers.{put_front};

@@ -9,7 +9,7 @@ use lib.ListN.{length, get_or, take, drop, set, length-append, length-drop, get_
 use lib.Pow.{pow_pos, pow-add}
 use lib.Seq.{length-take-le, take_at, take-add, take-take, get_or-append-add, get_or-take, get_or-drop}
 use Rattle.lists.specs.Table.{table}
-use Rattle.lists.proofs.Tables.{length-table, get_or-table, table_same, take-table, part-table}
+use Rattle.lists.proofs.Tables.{length-table, table_same, take-table, part-table}
 use Rattle.lists.proofs.Fill.{Filled, filled_none, filled_more, filled_at, filled-part, filled-all}
 use Rattle.lists.proofs.ByteLists.{part-get_or}
 use Rattle.twiddles.specs.Factors.{block_of}

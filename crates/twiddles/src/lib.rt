@@ -1,4 +1,6 @@
 // The factors of the layers of the number theoretic transform modulo X^1024 + 1 and q = 59393: powers of ψ = 3, all from one constant table.
+#![tactic(auto)]
+
 mod table;
 
 ghost use Rattle.std.specs.Prelude.{◌≡◌, ◌++◌, ◌+◌, ◌-◌, ◌/◌, ◌%◌, ◌^◌, ◌<◌, ◌≤◌, length, get_or, take, drop};

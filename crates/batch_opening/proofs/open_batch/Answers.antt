@@ -1,6 +1,5 @@
 use mathlib.Core.Path.{ap, ◌∙◌}
 use lib.ListN.{length}
-use borrow.Author.Tests.{not-true, not-false}
 use Rattle.answers.specs.Answers.{number}
 use Rattle.batch_calls.proofs.Lengths.{opening-fits}
 use Rattle.batch_calls.proofs.Promised.{open-batch_promise}

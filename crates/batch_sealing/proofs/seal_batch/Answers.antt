@@ -1,6 +1,6 @@
 use mathlib.Core.Path.{sym, ◌∙◌}
 use lib.ListN.{length}
-use borrow.Author.Tests.{not-true, not-false, ne_eqb}
+use borrow.Author.Tests.{ne_eqb}
 use Rattle.batch_calls.proofs.Lengths.{sealing-fits}
 use Rattle.batch_sealing.proofs.Laws.{fits_by, entries_refused, count_refused, lengths_refused, key_decides, written, kept}
 use Rattle.batch_sealing.proofs.seal_batch.Goals as goal

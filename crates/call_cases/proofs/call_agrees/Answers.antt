@@ -22,10 +22,13 @@ returns c =
     let y = inputs.field-2.ensures in
     let z = inputs.field-3.ensures in
     let out = filled.fill.ensures in
-    let out-is = ran.run-answer.ensures.out_after ∙ ap₄ (call_out args.call) x y z out in record { value = c.answer_agrees.ensures
+    let out-is = ran.run-answer.ensures.out_after ∙ ap₄ (call_out args.call) x y z out in record {
+      value = c.answer_agrees.ensures
           ∙ ap₅ answer_agrees
           (ran.run-answer.ensures.value ∙ ap₄ (λ (x y z out : List ℕ). call_answer args.call x y z (length out)) x y z out)
           (told.number-told.ensures ∙ ap (λ (k : ℕ). word32 (field (k + 1) args.text.now)) place.size_field-at.ensures.0)
           (words.field-words.ensures ∙ ap (λ (k : ℕ). field (k + 2) args.text.now) place.size_field-at.ensures.0)
           (c.field-4.ensures ∙ ap (λ (k : ℕ). field (k + 3) args.text.now) place.size_field-at.ensures.0)
-          out-is; out_after = out-is }
+          out-is;
+      out_after = out-is;
+    }

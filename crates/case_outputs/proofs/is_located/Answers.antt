@@ -15,15 +15,15 @@ pub slice_bounds-same-end : goal.slice_bounds-same-end
 slice_bounds-same-end c =
     let text = c.words-text in
     let size : length text.result.bytes ≡ text_length = search rules in
-    omega (arith, size, text.ensures.1.1)
+    omega (arith, size, text.ensures.length_value.1)
 
 pub returns : goal.returns
 returns c =
     let text = c.words-text in
     let end = text.result.length in
     let told = location_text c.args.l in
-    let size = text.ensures.1.0 in
-    let room : length told ≤ length (zeros text_length) = omega (arith, size, text.ensures.1.1) in
+    let size = text.ensures.length_value.0 in
+    let room : length told ≤ length (zeros text_length) = omega (arith, size, text.ensures.length_value.1) in
     let front = written-front end told (zeros text_length) (omega (arith, size)) room ∙ take_all end told (omega (arith, size)) in
-    let found = ap₂ take (sub-zero end) text.ensures.0 ∙ front in
+    let found = ap₂ take (sub-zero end) text.ensures.bytes_value ∙ front in
     c.same.ensures ∙ ap₂ is_same found refl

@@ -11,5 +11,5 @@ returns c =
     let args = c.args in
     let whole : args.n - 0 ≡ args.n = omega arith in
     let same : take (args.n - 0) args.buffer.now ≡ take args.n args.buffer.now = ap (λ (k : ℕ). take k args.buffer.now) whole in
-    let all = holds (ap desk_line (sym same)) c.line.ensures in
+    let all = holds (ap desk_line (sym same)) (c.line.ensures.bytes_value, c.line.ensures.length_value) in
     record { bytes_value = all.0; length_value = all.1 }

@@ -6,8 +6,8 @@ returns-in-Done c =
     let told = c in
     let header = told in
     let args = header.args in
-    let answer = (goal.at.returns-in-Done c).After-open-answer.«open».ensures.value in
-    let entry = (goal.at.returns-in-Done c).After-open-answer.«open».ensures.out_after in
+    let answer = c.open-answer.ensures.value in
+    let entry = c.open-answer.ensures.out_after in
     let all = opens_version_1 args.key.now args.sealed.now args.dummy.now header.check_header-header.ensures told.in-Done.is answer entry in
     record { answer_value = all.0; result_value = all.1 }
 

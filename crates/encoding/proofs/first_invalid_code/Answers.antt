@@ -1,4 +1,3 @@
-use Prim.Native.Nat.{◌-◌}
 use native.Mathlib.Omega.{arith}
 use Rattle.lists.proofs.Scan.{passed_none}
 use Rattle.encoding.proofs.Codes.{byte-stop, byte_more, valid_end}

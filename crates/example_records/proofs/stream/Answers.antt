@@ -1,4 +1,3 @@
-use Prim.Native.Nat.{◌-◌}
 use Rattle.example_records.proofs.Streams.{written_none, written_more, written_all}
 use Rattle.example_records.proofs.stream.Goals as goal
 

@@ -2,7 +2,7 @@ use mathlib.Core.Path.{◌≡◌, sym, ap, ◌∙◌}
 use mathlib.Core.Bool.{Bool, true, false, ◌&&◌}
 use lib.Dec.{eqb, leb}
 use lib.ListN.{length}
-use borrow.Author.Tests.{not-true, not-false, eqb-true}
+use borrow.Author.Tests.{eqb-true}
 use Rattle.lists.proofs.Both.{both}
 use Rattle.ntt.proofs.Factors.{forward-size, backward-size}
 use Rattle.answers.specs.declared.Refusal.TheVariants.{WrongLength}

@@ -5,7 +5,8 @@ pub returns : goal.returns
 returns c =
     let called = c in
     let start = called in
-    let (size, (public-size, secret-size)) = start.requires in
+    let size = start.requires.input_len in
+    let (public-size, secret-size) = start.requires.public_len in
     let answered = called.keygen_from_seed.ensures.value in
     let public = called.keygen_from_seed.ensures.public_after in
     let secret = called.keygen_from_seed.ensures.secret_after in

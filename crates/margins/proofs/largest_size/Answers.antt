@@ -1,5 +1,5 @@
 use mathlib.Core.Path.{◌≡◌, ap, ◌∙◌}
-use Prim.Native.Nat.{◌-◌, ◌<◌}
+use Prim.Native.Nat.{◌<◌}
 use native.Mathlib.Omega.{arith}
 use lib.IntN.{pos, nat_abs}
 use lib.ListN.{length, get_or}
@@ -25,7 +25,7 @@ loop-k-preserved c =
     let s : made.size-s.result ≡ nat_abs x = made.size-s.ensures ∙ ap nat_abs (read_back w16 x made.size-arg-1.given) in
     largest_more at.loop-k.invariant inside (
     elim c.if-s-largest.branch [
-      then-s-largest t ↦ omega (arith, t.largest-is, t.if-s-largest.true, s)
+      | then-s-largest t ↦ omega (arith, t.largest-is, t.if-s-largest.true, s)
       | else-s-largest t ↦ omega (arith, t.largest-is, t.if-s-largest.false, s)
     ])
 

@@ -7,7 +7,7 @@ use Rattle.algebra.specs.Numbers.{Below}
 use Rattle.modq.proofs.Prime.{q-positive}
 use Rattle.ntt.specs.Spectrum.{q}
 use Rattle.ntt.specs.Factors.{backward_factor, backward_layers}
-use Rattle.butterflies.specs.Layers.{backward_layer, unzipped, pairs, halves}
+use Rattle.butterflies.specs.Layers.{unzipped, pairs, halves}
 use Rattle.butterflies.proofs.Layers.{length_pairs, length-unzipped, length-backward, below-backward, below-unzipped, halves_of-pairs, backward_of-unzipped}
 use Rattle.ntt.specs.Layers.{layers}
 use Rattle.ntt.proofs.Layers.{layers-zero, layers-suc, layers_more}
@@ -51,15 +51,14 @@ loop-k-init c =
     let first-parts : Unzipped c.args.a c.halves.new.p =
     unzip _ c.requires.below c.pairs.ensures c.halves.ensures in
     let first-layer : c.backward_layer.new.r ≡ Layer 0 c.args.a =
-    c.backward_layer.ensures ∙ backward_of-unzipped q 512 _ _ _ first-parts.same in
-    (
-  search rules,
-  search rules,
-  ap length c.pairs.ensures ∙ length_pairs 512 _,
-  first-parts.size,
-  made 0 _ first-layer,
-  (λ a e. e),
-)
+    c.backward_layer.ensures ∙ backward_of-unzipped q 512 _ _ _ first-parts.same in (
+      search rules,
+      search rules,
+      ap length c.pairs.ensures ∙ length_pairs 512 _,
+      first-parts.size,
+      made 0 _ first-layer,
+      (λ a e. e),
+    )
 
 pub backward_layer-requires-in-loop-k : goal.backward_layer-requires-in-loop-k
 backward_layer-requires-in-loop-k c =

@@ -1,5 +1,4 @@
 use mathlib.Core.Path.{sym, ap, ◌∙◌}
-use Prim.Native.Nat.{◌-◌}
 use Rattle.lists.proofs.Fill.{filled_none, filled_more, filled-all}
 use Rattle.algebra.specs.Numbers.{mul_mod}
 use Rattle.algebra.proofs.Elements as El

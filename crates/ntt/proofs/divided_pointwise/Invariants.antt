@@ -1,7 +1,6 @@
 use Prim.Native.Nat.{◌-◌}
 use Rattle.lists.proofs.Fill.{Filled}
 use Rattle.algebra.specs.Numbers.{scale}
-use Rattle.algebra.proofs.Elements as El
 use Rattle.ntt.specs.Spectrum.{q, degree, inverse_degree, pointwise}
 use Rattle.ntt.proofs.divided_pointwise.Given as goal
 

@@ -1,12 +1,11 @@
 use mathlib.Core.Path.{◌≡◌, sym, ap, ap₂, subst, ◌∙◌}
-use Prim.Native.Nat.{ℕ, ◌+◌, ◌-◌, ◌*◌}
+use Prim.Native.Nat.{ℕ, ◌+◌, ◌*◌}
 use native.Mathlib.Omega.{arith}
 use lib.ListN.{length}
 use Rattle.algebra.specs.Numbers.{Below}
 use Rattle.algebra.proofs.Elements as El
 use Rattle.modq.proofs.Prime.{q-positive}
 use Rattle.ntt.specs.Spectrum.{q, degree}
-use Rattle.butterflies.specs.Layers.{forward_layer}
 use Rattle.butterflies.proofs.Layers.{length-forward, below-forward}
 use Rattle.ntt.specs.Layers.{layers}
 use Rattle.ntt.proofs.Layers.{layers-zero, layers_more}

@@ -3,7 +3,6 @@ use mathlib.Core.List.{List}
 use Prim.Native.Nat.{ℕ, ◌-◌, ◌*◌, ◌≤◌}
 use lib.ListN.{length}
 use Rattle.algebra.specs.Numbers.{Below}
-use Rattle.algebra.proofs.Elements as El
 use Rattle.ntt.specs.Spectrum.{q}
 use Rattle.ntt.specs.Factors.{forward_factor}
 use Rattle.butterflies.specs.Layers.{forward_layer}

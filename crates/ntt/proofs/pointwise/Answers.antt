@@ -1,5 +1,4 @@
 use mathlib.Core.Path.{sym, ◌∙◌}
-use Prim.Native.Nat.{◌-◌}
 use Rattle.lists.proofs.Fill.{filled_none, filled_more, filled-all}
 use Rattle.ntt.proofs.Spectrum.{pointwise-at, length-pointwise}
 use borrow.Author.Rules.{rules}

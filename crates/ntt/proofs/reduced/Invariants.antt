@@ -1,7 +1,6 @@
 use Prim.Native.Nat.{◌-◌}
 use Rattle.lists.proofs.Fill.{Filled}
 use Rattle.algebra.specs.Numbers.{reduced}
-use Rattle.algebra.proofs.Elements as El
 use Rattle.ntt.specs.Spectrum.{q, degree}
 use Rattle.ntt.proofs.reduced.Given as goal
 

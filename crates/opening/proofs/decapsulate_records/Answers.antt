@@ -28,5 +28,8 @@ returns c =
     let checked = words.read_encapsulation-c.ensures.answer_value in
     let elements = words.read_encapsulation-c.ensures.c1_value in
     let o =
-    outcome_by_lem key.read_secret_key-k.result dummy.read_triple-t.result words.read_encapsulation-c.result.c1 words.read_encapsulation-c.result.c2 (read_sized args.key.now) spectra dummy.read_triple-t.ensures elements.0 elements.1 in record { answer_value = c.find_triple.ensures.answer_value
-          ∙ decapsulated_by_lem answer checked codes.check_triple-codes.ensures o; triple_value = c.find_triple.ensures.triple_value ∙ ap answered o }
+    outcome_by_lem key.read_secret_key-k.result dummy.read_triple-t.result words.read_encapsulation-c.result.c1 words.read_encapsulation-c.result.c2 (read_sized args.key.now) spectra dummy.read_triple-t.ensures elements.0 elements.1 in record {
+      answer_value = c.find_triple.ensures.answer_value
+          ∙ decapsulated_by_lem answer checked codes.check_triple-codes.ensures o;
+      triple_value = c.find_triple.ensures.triple_value ∙ ap answered o;
+    }

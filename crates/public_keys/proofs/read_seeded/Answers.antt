@@ -24,7 +24,10 @@ returns c =
     let kind : is_seeded_key k ≡ true = eq-eqb (length k) seeded_key_length start.requires in
     let header = read.read_seeded_key-read.ensures.header_value in
     let (b, place) = read.read_seeded_key-read.ensures.b_value in
-    let (count, a) = expanded.element-u.ensures in record { record_value = (
+    let (count, a) = expanded.element-u.ensures in record {
+      record_value = (
         seeded_checked k header place checked.record_answer-record.ensures ∙ sym (seeded-record k kind),
         enough.unless-stream.ensures ∙ ap (λ (i : ℕ). unless (eqb i 1024) StreamExhausted Done) count ∙ sym (seeded-stream k kind),
-      ); a_value = (a ∙ sym (seeded-a k kind), b ∙ sym (seeded_b_lem k kind)) }
+      );
+      a_value = (a ∙ sym (seeded-a k kind), b ∙ sym (seeded_b_lem k kind));
+    }

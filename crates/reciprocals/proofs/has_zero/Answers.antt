@@ -1,5 +1,4 @@
 use mathlib.Core.Path.{◌≡◌, sym, ◌∙◌}
-use Prim.Native.Nat.{◌-◌}
 use native.Mathlib.Omega.{arith}
 use lib.ListN.{length}
 use borrow.Author.Rules.{rules}
@@ -19,7 +18,7 @@ loop-j-preserved c =
     let size : length at.args.t ≡ degree = search rules in
     let residue = sym c.reduce.ensures in
     elim c.if-reduce-eq0.branch [
-      then-reduce-eq0 w ↦ rw w.any-is (scanned_fail inv (omega arith) (nonzero-false _ (residue ∙ w.if-reduce-eq0.true)))
+      | then-reduce-eq0 w ↦ rw w.any-is (scanned_fail inv (omega arith) (nonzero-false _ (residue ∙ w.if-reduce-eq0.true)))
       | else-reduce-eq0 w ↦ rw w.any-is (scanned_pass inv (omega arith) (nonzero-true _ (λ e. w.if-reduce-eq0.false (sym residue ∙ e))))
     ]
 

@@ -1,4 +1,3 @@
-use Prim.Native.Nat.{◌-◌}
 use native.Mathlib.Omega.{arith}
 use Rattle.reciprocals.proofs.Levels.{inverted_none, inverted_more, inverted_all}
 use Rattle.reciprocals.proofs.invert_level.Goals as goal

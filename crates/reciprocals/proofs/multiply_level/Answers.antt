@@ -1,4 +1,3 @@
-use Prim.Native.Nat.{◌-◌}
 use native.Mathlib.Omega.{arith}
 use Rattle.reciprocals.proofs.Levels.{multiplied_none, multiplied_more, multiplied_all}
 use Rattle.reciprocals.proofs.multiply_level.Goals as goal

@@ -2,7 +2,7 @@ use mathlib.Core.Path.{sym, ap, ◌∙◌}
 use mathlib.Core.Bool.{true, false}
 use Prim.Native.Nat.{ℕ}
 use lib.Dec.{eqb}
-use borrow.Author.Tests.{not-true, not-false, eq-eqb, ne_eqb}
+use borrow.Author.Tests.{eq-eqb, ne_eqb}
 use Rattle.encoding.specs.Header.{has_mark}
 use Rattle.records.proofs.Checks.{wrong_mark, wrong_version, header-done}
 use Rattle.records.proofs.check_header.Goals as goal

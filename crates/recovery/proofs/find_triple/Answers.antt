@@ -14,6 +14,9 @@ returns c =
     let o = outcome_by args.key args.dummy args.c.c1 args.c.c2 in
     let w = quotients_by args.key args.dummy args.c.c1 args.c.c2 in
     let found = made.decapsulate-d.ensures in
-    let last = c.unless-found.ensures ∙ ap (λ (d : Decapsulation). unless d.found DecapsulationFailure Done) found ∙ found-answer w o in record { answer_value = c.and_then-2.ensures
+    let last = c.unless-found.ensures ∙ ap (λ (d : Decapsulation). unless d.found DecapsulationFailure Done) found ∙ found-answer w o in record {
+      answer_value = c.and_then-2.ensures
           ∙ ap (and_then args.key.answer)
-          (c.and_then-opening.ensures ∙ ap (and_then args.c.answer) (c.and_then.ensures ∙ ap (and_then args.codes) last)); triple_value = ap (λ (d : Decapsulation). as_triple d.triple) found ∙ found_triple w o }
+          (c.and_then-opening.ensures ∙ ap (and_then args.c.answer) (c.and_then.ensures ∙ ap (and_then args.codes) last));
+      triple_value = ap (λ (d : Decapsulation). as_triple d.triple) found ∙ found_triple w o;
+    }

@@ -25,7 +25,11 @@ returns c =
     let t = ap (λ (d : Decapsulation). as_triple d.triple) found ∙ found_triple w o in
     let genuine = verified.verify-v.ensures.genuine_value ∙ ap (λ (x : Triple). is_genuine x.r x.e1 x.e2 blocks tag) t in
     let first = tested.unless-found.ensures ∙ ap (λ (d : Decapsulation). unless d.found DecapsulationFailure Done) found ∙ found-answer w o in
-    let second = c.unless-genuine.ensures ∙ ap (λ (x : Bool). unless x TagMismatch Done) genuine in record { answer_value = c.and_then-2.ensures
+    let second = c.unless-genuine.ensures ∙ ap (λ (x : Bool). unless x TagMismatch Done) genuine in record {
+      answer_value = c.and_then-2.ensures
           ∙ ap (and_then args.key.answer)
           (c.and_then-rest.ensures
-          ∙ ap (and_then args.c.answer) (c.and_then.ensures ∙ ap₂ and_then first second ∙ verified-answer o blocks tag)); k0_value = verified.verify-v.ensures.k0_value ∙ ap triple_key0 t; quotients_value = ap (λ (d : Decapsulation). d.quotients) found ∙ found-quotients w o }
+          ∙ ap (and_then args.c.answer) (c.and_then.ensures ∙ ap₂ and_then first second ∙ verified-answer o blocks tag));
+      k0_value = verified.verify-v.ensures.k0_value ∙ ap triple_key0 t;
+      quotients_value = ap (λ (d : Decapsulation). d.quotients) found ∙ found-quotients w o;
+    }

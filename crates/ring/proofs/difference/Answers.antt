@@ -1,5 +1,4 @@
 use mathlib.Core.Path.{refl, sym, ◌∙◌}
-use Prim.Native.Nat.{◌-◌}
 use Rattle.lists.proofs.Fill.{filled_none, filled_more, filled-all}
 use Rattle.algebra.proofs.Elements.{minus-element, minus-at}
 use Rattle.modq.proofs.Prime.{q-positive}

@@ -1,12 +1,9 @@
 use mathlib.Core.Path.{◌≡◌, sym, ◌∙◌}
-use Prim.Native.Nat.{◌-◌}
 use native.Mathlib.Omega.{arith}
 use lib.ListN.{length}
 use borrow.Author.Rules.{rules}
-use borrow.Author.Tests.{not-true, not-false}
 use Rattle.lists.proofs.Scan.{scanned_none, scanned_pass, scanned_fail}
 use Rattle.ring.specs.Ring.{n}
-use Rattle.ring.specs.Centred.{is_near}
 use Rattle.ring.proofs.Scans.{within-scanned}
 use Rattle.ring.proofs.is_within.Goals as goal
 use Rattle.ring.proofs.is_within.Goals.{then-not-is_near, else-not-is_near}
@@ -21,7 +18,7 @@ loop-i-preserved c =
     let size : length at.args.a ≡ n = search rules in
     let near = sym c.is_near.ensures in
     elim c.if-not-is_near.branch [
-      then-not-is_near w ↦ rw w.all-is (scanned_fail inv (omega arith) (near ∙ w.if-not-is_near.true))
+      | then-not-is_near w ↦ rw w.all-is (scanned_fail inv (omega arith) (near ∙ w.if-not-is_near.true))
       | else-not-is_near w ↦ rw w.all-is (scanned_pass inv (omega arith) (near ∙ w.if-not-is_near.false))
     ]
 

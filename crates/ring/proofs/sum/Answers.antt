@@ -1,5 +1,4 @@
 use mathlib.Core.Path.{refl, sym, ◌∙◌}
-use Prim.Native.Nat.{◌-◌}
 use Rattle.lists.proofs.Fill.{filled_none, filled_more, filled-all}
 use Rattle.algebra.proofs.Elements.{plus-element, plus-at}
 use Rattle.modq.proofs.Prime.{q-positive}

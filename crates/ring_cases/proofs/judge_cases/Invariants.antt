@@ -1,7 +1,7 @@
 use Prim.Native.Nat.{◌-◌}
 use lib.ListN.{length}
 use Rattle.vectors.specs.declared.Report.TheVariants.{Counts}
-use Rattle.vectors.specs.Answers.{counted, report}
+use Rattle.vectors.specs.Answers.{counted}
 use Rattle.vectors.proofs.Counts.{Counted}
 use Rattle.ring_cases.specs.Cases.{verdict}
 use Rattle.ring_cases.proofs.judge_cases.Given as goal

@@ -5,7 +5,7 @@ use borrow.Author.Count.{below_more}
 use lib.Seq.{ext_get_or}
 use mathlib.Core.Path.{◌≡◌, ap}
 use lib.ListN.{length, get_or}
-use Prim.Native.Nat.{ℕ, ◌-◌}
+use Prim.Native.Nat.{ℕ}
 use borrow.Author.Rules.{rules}
 use Rattle.ring_cases.proofs.same_elements.Goals as goal
 

@@ -1,5 +1,5 @@
 use mathlib.Core.Path.{◌≡◌, refl}
-use Prim.Native.Nat.{◌+◌, ◌-◌, ◌*◌}
+use Prim.Native.Nat.{◌+◌, ◌*◌}
 use native.Mathlib.Omega.{arith}
 use Rattle.ring.specs.Ring.{q, n}
 use Rattle.sampling.proofs.Streams.{stream-words}
@@ -24,11 +24,14 @@ loop-j-preserved c =
     let next : 84 * k + (at.loop-j.j + 1) ≡ 84 * k + at.loop-j.j + 1 = omega arith in
     let word = c.word-w.ensures in
     elim c.if-w-lt-Q.branch [
-      then-w-lt-Q+else-count-eq-DEGREE w ↦
-        (omega arith, block, omega (arith, w.if-count-eq-DEGREE.false, w.count-is),
-          rw (next, w.value-is, w.count-is) (read_take _ inv (omega arith) (omega arith) word w.if-w-lt-Q.true room))
+      | then-w-lt-Q+else-count-eq-DEGREE w ↦ (
+        omega arith,
+        block,
+        omega (arith, w.if-count-eq-DEGREE.false, w.count-is),
+        rw (next, w.value-is, w.count-is) (read_take _ inv (omega arith) (omega arith) word w.if-w-lt-Q.true room),
+      )
       | else-w-lt-Q w ↦
-        (omega arith, block, omega (arith, w.count-is), rw (next, w.value-is, w.count-is) (read_pass _ inv (omega arith) (omega arith) word w.if-w-lt-Q.false))
+          (omega arith, block, omega (arith, w.count-is), rw (next, w.value-is, w.count-is) (read_pass _ inv (omega arith) (omega arith) word w.if-w-lt-Q.false))
     ]
 
 pub blocks-2-preserved : goal.blocks-2-preserved

@@ -16,6 +16,9 @@ returns c =
     let ha : length args.a ≡ 1024 = search (rules, start.well_formed.0) in
     let hb : length args.b ≡ 1024 = search (rules, start.well_formed.1.0) in
     let hr : length dummy.r ≡ 1024 = search (rules, start.well_formed.1.1.0.1) in
-    let r = transformed.forward-r_spectrum.ensures in record { first_value = summed_by-spectra args.a dummy.r dummy.e1 args.c.c1 _ _ _ _ ha hr r
-          (first.forward-rest1.ensures ∙ ap spectrum_of first.sum.ensures) c.pointwise.ensures c.sum-3.ensures; second_value = summed_by-spectra args.b dummy.r dummy.e2 args.c.c2 _ _ _ _ hb hr r
-          (second.forward-rest2.ensures ∙ ap spectrum_of second.sum-2.ensures) c.pointwise-2.ensures c.sum-4.ensures }
+    let r = transformed.forward-r_spectrum.ensures in record {
+      first_value = summed_by-spectra args.a dummy.r dummy.e1 args.c.c1 _ _ _ _ ha hr r
+          (first.forward-rest1.ensures ∙ ap spectrum_of first.sum.ensures) c.pointwise.ensures c.sum-3.ensures;
+      second_value = summed_by-spectra args.b dummy.r dummy.e2 args.c.c2 _ _ _ _ hb hr r
+          (second.forward-rest2.ensures ∙ ap spectrum_of second.sum-2.ensures) c.pointwise-2.ensures c.sum-4.ensures;
+    }

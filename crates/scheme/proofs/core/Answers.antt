@@ -1,7 +1,7 @@
 use mathlib.Core.Path.{ap, ap₂, ◌∙◌}
 use mathlib.Core.List.{List}
 use lib.IntN.{ℤ}
-use Rattle.exactness.specs.Scheme as Any
+use Rattle.exactness.specs.Scheme as AnySetting
 use Rattle.ntt.specs.Spectrum.{coefficients_of}
 use Rattle.ring.specs.Centred.{remainders, quotients}
 use Rattle.scheme.specs.Scheme.{Triple, recovered, judged}
@@ -9,7 +9,7 @@ use Rattle.scheme.specs.Answers.{triple_of, answer}
 use Rattle.scheme.proofs.core.Goals as goal
 
 pub returns : goal.returns
-unfolding Any.core
+unfolding AnySetting.core
 returns c =
     let divided = c in
     let args = divided.args in

@@ -2,7 +2,7 @@ use mathlib.Core.Path.{◌≡◌, ap, ap₂, ◌∙◌}
 use mathlib.Core.List.{List}
 use Prim.Native.Nat.{ℕ}
 use lib.ListN.{length}
-use Rattle.exactness.specs.Scheme as Any
+use Rattle.exactness.specs.Scheme as AnySetting
 use Rattle.ntt.specs.Spectrum.{coefficients_of}
 use Rattle.ring.specs.Ring.{product}
 use Rattle.ring.specs.Centred.{quotients}
@@ -15,7 +15,7 @@ use borrow.Author.Rules.{rules}
 use Rattle.scheme.proofs.decapsulate.Goals as goal
 
 pub returns : goal.returns
-unfolding Any.decapsulation
+unfolding AnySetting.decapsulation
 returns c =
     let sums = c in
     let start = sums in

@@ -3,7 +3,7 @@ use mathlib.Core.Bool.{not, decide}
 use mathlib.Core.List.{List}
 use Prim.Native.Nat.{ℕ}
 use lib.ListN.{length}
-use Rattle.exactness.specs.Scheme as Any
+use Rattle.exactness.specs.Scheme as AnySetting
 use Rattle.ring.specs.Ring.{sum, multiple}
 use Rattle.ring.specs.Invertible.{is_invertible}
 use Rattle.ring.specs.Reciprocals.{has_zero}
@@ -13,7 +13,7 @@ use borrow.Author.Rules.{rules}
 use Rattle.scheme.proofs.generate.Goals as goal
 
 pub returns : goal.returns
-unfolding Any.key_element
+unfolding AnySetting.key_element
 returns c =
     let made = c in
     let args = made.args in

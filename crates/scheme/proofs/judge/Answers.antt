@@ -1,5 +1,5 @@
 use mathlib.Core.Path.{sym, ap, ap₂, ◌∙◌}
-use mathlib.Core.Bool.{true, false, ◌&&◌}
+use mathlib.Core.Bool.{◌&&◌}
 use Rattle.scheme.specs.Scheme.{Triple, Outcome, found, is_ternary}
 use Rattle.scheme.specs.Answers.{triple_of, answer}
 use Rattle.scheme.proofs.Steps.{judged-found, judged-failed}

@@ -2,7 +2,7 @@ use mathlib.Core.Path.{◌≡◌, refl, ap, ◌∙◌}
 use mathlib.Core.List.{List}
 use Prim.Native.Nat.{ℕ}
 use lib.ListN.{length}
-use Rattle.exactness.specs.Scheme as Any
+use Rattle.exactness.specs.Scheme as AnySetting
 use Rattle.ntt.specs.Spectrum.{coefficients_of, pointwise}
 use Rattle.ring.specs.Ring.{difference, product}
 use Rattle.scheme.proofs.Steps.{triple-same, r_by-spectra, e1_by-spectra}
@@ -10,7 +10,7 @@ use borrow.Author.Rules.{rules}
 use Rattle.scheme.proofs.recover.Goals as goal
 
 pub returns : goal.returns
-unfolding Any.recovered Any.recovered_r Any.recovered_e1
+unfolding AnySetting.recovered AnySetting.recovered_r AnySetting.recovered_e1
 returns c =
     let made = c in
     let start = made in

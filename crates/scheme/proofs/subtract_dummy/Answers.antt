@@ -1,8 +1,8 @@
-use Rattle.exactness.specs.Scheme as Any
+use Rattle.exactness.specs.Scheme as AnySetting
 use Rattle.scheme.proofs.Steps.{triple-same}
 use Rattle.scheme.proofs.subtract_dummy.Goals as goal
 
 pub returns : goal.returns
-unfolding Any.without_dummy
+unfolding AnySetting.without_dummy
 returns c =
     triple-same c.difference.ensures c.difference-2.ensures c.difference-3.ensures

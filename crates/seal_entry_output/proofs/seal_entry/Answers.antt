@@ -12,9 +12,14 @@ returns-in-Done c =
     let answered = made.sealed_of-answer.ensures.value in
     let sealed = made.sealed_of-answer.ensures.sealed_after in
     let told = c.in-Done.is in
-    let output = output-done input (sym answered ∙ told) (rw told at sealed) (made.sealed_of-answer.auto.1.0 ∙ start.requires) in
-    let all = (rw answered at sealed, (output.size, (output.bytes, rw answered at c.line-error.ensures))) in
-    record { sealed_after = all.0; sealed_value = all.1.0; sealed_after_2 = all.1.1.0; bytes_value = all.1.1.1.0; length_value = all.1.1.1.1 }
+    let output = output-done input (sym answered ∙ told) (rw told at sealed) (made.sealed_of-answer.auto.sealed ∙ start.requires) in
+    record {
+      sealed_after = rw answered at sealed;
+      sealed_value = output.size;
+      sealed_after_2 = output.bytes;
+      bytes_value = rw answered at c.line-error.ensures.bytes_value;
+      length_value = rw answered at c.line-error.ensures.length_value;
+    }
 
 pub returns : goal.returns
 unfolding standard_error
@@ -24,6 +29,11 @@ returns c =
     let input = start.args.input.now in
     let answered = made.sealed_of-answer.ensures.value in
     let sealed = made.sealed_of-answer.ensures.sealed_after in
-    let output = output_refused input made.sealed_of-answer.new.1.0 (sym answered ∙ c.in_default.is) in
-    let all = (rw answered at sealed, (output.size, (output.bytes, rw answered at c.line-error.ensures))) in
-    record { sealed_after = all.0; sealed_value = all.1.0; sealed_after_2 = all.1.1.0; bytes_value = all.1.1.1.0; length_value = all.1.1.1.1 }
+    let output = output_refused input made.sealed_of-answer.new.sealed (sym answered ∙ c.in_default.is) in
+    record {
+      sealed_after = rw answered at sealed;
+      sealed_value = output.size;
+      sealed_after_2 = output.bytes;
+      bytes_value = rw answered at c.line-error.ensures.bytes_value;
+      length_value = rw answered at c.line-error.ensures.length_value;
+    }

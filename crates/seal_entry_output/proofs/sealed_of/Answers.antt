@@ -1,5 +1,4 @@
 use mathlib.Core.Path.{refl, sym, ap, ◌∙◌}
-use borrow.Author.Tests.{not-true, not-false}
 use Rattle.answers.specs.declared.Answer.{Answer}
 use Rattle.answers.specs.Answers.{on_done}
 use Rattle.calls.specs.Calls.{seal_answer, seal_out}
@@ -21,5 +20,8 @@ returns c =
     let start = left in
     let input = start.args.input.now in
     let answered = called.seal_parts.ensures.value in
-    let sealed = called.seal_parts.ensures.sealed_after in record { value = answered ∙ ap (seal_answer (key_part input) (noise_part input) (entry_part input)) start.requires
-          ∙ sym (answer_by_length input (sym left.is_input_length.ensures ∙ left.if-not-is_input_length.false)); sealed_after = sealed ∙ ap (λ (a : Answer). on_done a (sealed_entry input) start.args.sealed.now) (sym answered) }
+    let sealed = called.seal_parts.ensures.sealed_after in record {
+      value = answered ∙ ap (seal_answer (key_part input) (noise_part input) (entry_part input)) start.requires
+          ∙ sym (answer_by_length input (sym left.is_input_length.ensures ∙ left.if-not-is_input_length.false));
+      sealed_after = sealed ∙ ap (λ (a : Answer). on_done a (sealed_entry input) start.args.sealed.now) (sym answered);
+    }

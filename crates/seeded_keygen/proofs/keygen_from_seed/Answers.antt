@@ -2,7 +2,6 @@ use mathlib.Core.Path.{◌≡◌, sym, ap, ap₂, ◌∙◌}
 use mathlib.Core.Bool.{Bool, true, false, ◌&&◌}
 use lib.Dec.{eqb}
 use lib.ListN.{length}
-use borrow.Author.Tests.{not-true, not-false}
 use Rattle.answers.specs.declared.Refusal.TheVariants.{WrongLength}
 use Rattle.answers.specs.declared.Answer.{Answer}
 use Rattle.answers.specs.Answers.{unless, on_done}
@@ -60,6 +59,10 @@ returns c =
     let checked = made.generate-g.ensures.answer_value in
     let (a, b) = made.generate-g.ensures.a_value in
     let t = made.generate-g.ensures.s_value in
-    let answer = checked ∙ sym (ap (λ (x : Bool). unless x WrongLength (generated_answer (seed_stream seed) s e)) fits) in record { value = answer; public_after = c.write_seeded_key.ensures
-            ∙ ap₂ (λ (x : Answer) (l : List ℕ). on_done x l public) answer (ap (seeded_key_bytes seed) b); secret_after = c.write_secret_key.ensures
-            ∙ ap₂ (λ (x : Answer) (l : List ℕ). on_done x l secret) answer (ap₂ (λ (x y : List ℕ). x ++ y) (ap₂ (record_bytes secret_key_mark 1) a b) (ap ternary_bytes t)) }
+    let answer = checked ∙ sym (ap (λ (x : Bool). unless x WrongLength (generated_answer (seed_stream seed) s e)) fits) in record {
+      value = answer;
+      public_after = c.write_seeded_key.ensures
+          ∙ ap₂ (λ (x : Answer) (l : List ℕ). on_done x l public) answer (ap (seeded_key_bytes seed) b);
+      secret_after = c.write_secret_key.ensures
+          ∙ ap₂ (λ (x : Answer) (l : List ℕ). on_done x l secret) answer (ap₂ (λ (x y : List ℕ). x ++ y) (ap₂ (record_bytes secret_key_mark 1) a b) (ap ternary_bytes t));
+    }

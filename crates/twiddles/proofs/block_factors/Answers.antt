@@ -1,7 +1,7 @@
 use mathlib.Core.List.{List}
 use Rattle.twiddles.proofs.Factors.{form-at}
 use mathlib.Core.Path.{ap, ◌∙◌}
-use Prim.Native.Nat.{ℕ, ◌-◌, ◌%◌}
+use Prim.Native.Nat.{ℕ, ◌%◌}
 use Rattle.lists.proofs.Fill.{filled_none, filled-more-by, filled-all}
 use Rattle.lists.proofs.Tables.{length-table}
 use lib.ListN.{get_or}

@@ -1,5 +1,4 @@
 use mathlib.Core.Path.{subst}
-use Prim.Native.Nat.{◌-◌}
 use native.Mathlib.Omega.{arith}
 use Rattle.lists.proofs.Fill.{Filled, filled-all}
 use Rattle.twiddles.proofs.Repeats.{doubled_none, doubled_more}

@@ -1,5 +1,5 @@
 use mathlib.Core.Path.{◌≡◌, sym, ◌∙◌}
-use Prim.Native.Nat.{◌-◌, ◌/◌}
+use Prim.Native.Nat.{◌/◌}
 use lib.ListN.{get_or}
 use Rattle.lists.proofs.Fill.{filled_at}
 use Rattle.twiddles.proofs.Reversal.{reversed-start}

@@ -1,8 +1,7 @@
-use mathlib.Core.Path.{◌≡◌, sym, ◌∙◌}
-use Prim.Native.Nat.{◌+◌, ◌-◌, ◌*◌, ◌%◌, ◌^◌, ◌<◌, ◌≤◌}
+use mathlib.Core.Path.{sym, ◌∙◌}
 use native.Mathlib.Omega.{arith}
 use Rattle.twiddles.proofs.Factors.{shifted}
-use Rattle.twiddles.proofs.Repeats.{row, row-none, row_more, row_all, double-fits}
+use Rattle.twiddles.proofs.Repeats.{row-none, row_more, row_all, double-fits}
 use borrow.Author.Rules.{rules}
 use Rattle.twiddles.proofs.repeat.Goals as goal
 
@@ -16,9 +15,11 @@ pub slice_bounds-double-end : goal.slice_bounds-double-end
 slice_bounds-double-end c = rw (shifted c.loop-d.d (omega arith)) (omega (arith, double-fits c.loop-d.d (omega arith), c.loop-d.invariant.2.size))
 
 pub loop-d-preserved : goal.loop-d-preserved
-loop-d-preserved c =
-    (search rules, search rules,
-      row_more c.args.w.now c.loop-d.w _ _ c.loop-d.d _ (shifted c.loop-d.d (omega arith)) c.loop-d.invariant.0 (search rules) c.loop-d.invariant.2 c.double.ensures)
+loop-d-preserved c = (
+  search rules,
+  search rules,
+  row_more c.args.w.now c.loop-d.w _ _ c.loop-d.d _ (shifted c.loop-d.d (omega arith)) c.loop-d.invariant.0 (search rules) c.loop-d.invariant.2 c.double.ensures,
+)
 
 pub shape_of-w : goal.shape_of-w
 shape_of-w c = c.loop-d.invariant.2.size ∙ sym c.requires.0

@@ -1,7 +1,6 @@
 use Prim.Native.Nat.{◌-◌}
 use Rattle.lists.proofs.Fill.{Filled}
 use Rattle.algebra.specs.Numbers.{scale}
-use Rattle.algebra.proofs.Elements as El
 use Rattle.modq.specs.Montgomery.{from_montgomery}
 use Rattle.twiddles.specs.Powers.{q, degree}
 use Rattle.twiddles.proofs.scaled.Given as goal
