@@ -1,4 +1,6 @@
 // When a case of key making, or of a key's check, agrees.
+#![tactic(auto)]
+
 ghost use Rattle.std.specs.Prelude.{◌≡◌, length};
 ghost use Rattle.case_outputs.specs.Outputs.{filled, output};
 ghost use Rattle.key_cases.specs.KeyCases.{generation_answer, generation_public, generation_secret, check_agrees, keys_agree, public_after, secret_after, keygen_agrees};

@@ -2,10 +2,16 @@ use Rattle.key_cases.proofs.generate.Goals as goal
 
 pub returns-in-Stream : goal.returns-in-Stream
 returns-in-Stream c =
-    let all = rw c.in-Stream.is c.keygen.ensures in
-    record { value = all.0; public_after = all.1.0; secret_after = all.1.1 }
+    record {
+      value = rw c.in-Stream.is c.keygen.ensures.value;
+      public_after = rw c.in-Stream.is c.keygen.ensures.public_after;
+      secret_after = rw c.in-Stream.is c.keygen.ensures.secret_after;
+    }
 
 pub returns-in-Seed : goal.returns-in-Seed
 returns-in-Seed c =
-    let all = rw c.in-Seed.is c.keygen_from_seed.ensures in
-    record { value = all.0; public_after = all.1.0; secret_after = all.1.1 }
+    record {
+      value = rw c.in-Seed.is c.keygen_from_seed.ensures.value;
+      public_after = rw c.in-Seed.is c.keygen_from_seed.ensures.public_after;
+      secret_after = rw c.in-Seed.is c.keygen_from_seed.ensures.secret_after;
+    }
