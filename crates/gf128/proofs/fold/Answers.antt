@@ -37,7 +37,7 @@ loop-i-preserved c =
       search rules,
       c.mul-r.ensures
           ∙ ap (times (value k)) (c.add-added.ensures ∙ ap₂ bit_xor at-loop.loop-i.invariant.1 (c.load.ensures ∙ ap (λ (n : ℕ). number (take n (drop (16 * i) blocks))) whole))
-          ∙ number-folded (value k) i blocks (two-words-lt k.hi k.lo hi lo) (bytes-block (value start)) (λ j. omega (arith, c.type_inv.blocks j)) within,
+          ∙ number-folded (value k) i blocks (two-words-lt k.hi k.lo hi lo) (bytes-block (value start)) (λ j. omega (arith, at-loop.shared_slice_known-1.given j)) within,
     )
 
 pub returns : goal.returns
