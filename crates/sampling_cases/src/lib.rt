@@ -1,5 +1,7 @@
 // On how many cases of key making the samples agree with the keys.
 // A case has nine fields: the stream, the noise of s and of e, the lengths of both keys, the number, an empty field, and both keys.
+#![tactic(auto)]
+
 ghost use Rattle.std.specs.Prelude.{◌≡◌, length};
 ghost use Rattle.sampling.specs.Stream.{taken};
 ghost use Rattle.records.specs.Layout.{public_key_length, secret_key_length};

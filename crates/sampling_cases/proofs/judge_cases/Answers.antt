@@ -1,4 +1,3 @@
-use Prim.Native.Nat.{◌-◌}
 use Rattle.vectors.proofs.Counts.{counted_none, counted_more, counted_all}
 use borrow.Author.Rules.{rules}
 use Rattle.sampling_cases.proofs.judge_cases.Goals as goal

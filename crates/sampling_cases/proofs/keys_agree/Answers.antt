@@ -1,5 +1,5 @@
 use mathlib.Core.Path.{sym, ◌∙◌}
-use borrow.Author.Tests.{not-true, not-false, eq-eqb, ne_eqb}
+use borrow.Author.Tests.{eq-eqb, ne_eqb}
 use Rattle.sampling_cases.proofs.keys_agree.Goals as goal
 
 pub returns-then-public-ne-PUBLIC_KEY_LENGTH : goal.returns-then-public-ne-PUBLIC_KEY_LENGTH
