@@ -1,4 +1,5 @@
 use mathlib.Core.Path.{ap₂, ◌∙◌}
+use mathlib.Core.List.{◌++◌}
 use Rattle.records.specs.Layout.{secret_key_mark}
 use Rattle.records.specs.Records.{record_bytes}
 use Rattle.example_records.specs.Made.{secret_key}
