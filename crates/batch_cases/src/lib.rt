@@ -1,4 +1,6 @@
 // When a case of opening a batch agrees.
+#![tactic(auto)]
+
 ghost use Rattle.std.specs.Prelude.{◌≡◌};
 ghost use Rattle.case_outputs.specs.Outputs.{filled, output};
 ghost use Rattle.batch_cases.specs.BatchCases.{is_shown, is_kept, entries_agree, opened_agrees, open_batch_after, open_batch_agrees};

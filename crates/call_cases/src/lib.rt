@@ -1,4 +1,6 @@
 // When a case of a call with one output agrees.
+#![tactic(auto)]
+
 ghost use Rattle.std.specs.Prelude.{◌≡◌, ◌≤◌, length};
 ghost use Rattle.case_outputs.specs.Outputs.{filled, output};
 ghost use Rattle.call_cases.specs.CallCases.{call_answer, call_out, size_field, out_after, call_agrees};

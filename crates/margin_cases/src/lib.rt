@@ -1,4 +1,6 @@
 // When a case of opening with margin agrees.
+#![tactic(auto)]
+
 ghost use Rattle.std.specs.Prelude.{◌≡◌};
 ghost use Rattle.case_outputs.specs.Outputs.{filled, output};
 ghost use Rattle.margin_cases.specs.MarginCases.{margin_agrees, opened_agrees, open_margin_after, open_margin_agrees};

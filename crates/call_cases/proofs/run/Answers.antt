@@ -8,7 +8,7 @@ pub returns-in-Encapsulate : goal.returns-in-Encapsulate
 returns-in-Encapsulate c =
     let args = c.args in
     let all = called Encapsulate args.x.now args.y.now args.z.now args.out.now
-    c.in-Encapsulate.is c.encapsulate.ensures in
+    c.in-Encapsulate.is (c.encapsulate.ensures.value, c.encapsulate.ensures.out_after) in
     record { value = all.0; out_after = all.1 }
 
 pub returns-in-Decapsulate : goal.returns-in-Decapsulate
@@ -22,21 +22,21 @@ pub returns-in-Seal : goal.returns-in-Seal
 returns-in-Seal c =
     let args = c.args in
     let all = called Seal args.x.now args.y.now args.z.now args.out.now
-    c.in-Seal.is c.seal.ensures in
+    c.in-Seal.is (c.seal.ensures.value, c.seal.ensures.out_after) in
     record { value = all.0; out_after = all.1 }
 
 pub returns-in-Open : goal.returns-in-Open
 returns-in-Open c =
     let args = c.args in
     let all = called Open args.x.now args.y.now args.z.now args.out.now
-    c.in-Open.is ((goal.at.returns-in-Open c).After-open.«open».ensures.value, (goal.at.returns-in-Open c).After-open.«open».ensures.out_after) in
+    c.in-Open.is (c.open.ensures.value, c.open.ensures.out_after) in
     record { value = all.0; out_after = all.1 }
 
 pub returns-in-SealBatch : goal.returns-in-SealBatch
 returns-in-SealBatch c =
     let args = c.args in
     let all = called SealBatch args.x.now args.y.now args.z.now args.out.now
-    c.in-SealBatch.is c.seal_batch.ensures in
+    c.in-SealBatch.is (c.seal_batch.ensures.value, c.seal_batch.ensures.out_after) in
     record { value = all.0; out_after = all.1 }
 
 pub returns-in-ExpandSecretKey : goal.returns-in-ExpandSecretKey
