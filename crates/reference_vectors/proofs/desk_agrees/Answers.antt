@@ -14,7 +14,7 @@ use Rattle.reference_vectors.proofs.desk_agrees.Goals as goal
 
 pub returns : goal.returns
 returns c =
-    let answer-is = c.answer.ensures ∙ ap desk_answer c.field.ensures in
+    let answer-is = c.answer-answer.ensures ∙ ap desk_answer c.field.ensures in
     let none = ap (λ (l : List ℕ). eqb (length l) 0) c.field-words.ensures in
     let place = c.locate.ensures ∙ ap location answer-is in
     let same = c.is_located-located.ensures ∙ ap₂ (λ (l : Location) (w : List ℕ). is_same (location_text l) w) place c.field-words.ensures in

@@ -16,4 +16,4 @@ loop-at-preserved c =
 pub returns : goal.returns
 returns c =
     counted_all c.loop-at.invariant c.loop-at-test.false
-    ∙ ap (λ (k : ℕ). report (verdict c.args.kind) (k + 1) c.args.text.now) c.last_field.ensures.0
+    ∙ ap (λ (k : ℕ). report (verdict c.args.kind) (k + 1) c.args.text.now) c.last_field-fields.ensures.0

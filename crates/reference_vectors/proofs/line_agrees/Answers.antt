@@ -12,16 +12,16 @@ use borrow.Author.Rules.{rules}
 use Rattle.reference_vectors.proofs.line_agrees.Goals as goal
 
 pub overflow_sub-end : goal.overflow_sub-end
-overflow_sub-end c = omega (arith, c.line.ensures.length_value.0, line-some c.field.result.now)
+overflow_sub-end c = omega (arith, c.line-line.ensures.length_value.0, line-some c.field.result.now)
 
 pub slice_bounds-same-end : goal.slice_bounds-same-end
 slice_bounds-same-end c =
-    let size : length c.line.result.bytes ≡ 35 = search rules in
-    omega (arith, size, c.line.ensures.length_value.1)
+    let size : length c.line-line.result.bytes ≡ 35 = search rules in
+    omega (arith, size, c.line-line.ensures.length_value.1)
 
 pub returns : goal.returns
 returns c =
-    let line = c.line in
+    let line = c.line-line in
     let length-is = line.ensures.length_value.0 in
     let told : List ℕ = desk_line c.field.result.now in
     let room : length told ≤ 35 = omega (arith, length-is, line.ensures.length_value.1) in
