@@ -60,7 +60,7 @@ def definitions(paths):
 def snake(name):
     if name[:1].isupper() or name in STEMS:
         return STEMS.get(name, name)
-    return re.sub(r"(?<=[a-z0-9])([A-Z])", lambda m: "_" + m[1].lower(), name)
+    return re.sub(r"(?<=[A-Za-z0-9])([A-Z])", lambda m: "_" + m[1].lower(), name)
 
 
 def spelled(name, plain):

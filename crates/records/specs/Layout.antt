@@ -96,5 +96,5 @@ abbrev pub seed_place : ℕ
 seed_place = 5
 
 -- of b, behind the seed
-abbrev pub seeded_bPlace : ℕ
-seeded_bPlace = 37
+abbrev pub seeded_b_place : ℕ
+seeded_b_place = 37

@@ -19,7 +19,7 @@ use Rattle.answers.specs.declared.Answer.{Answer}
 use Rattle.answers.specs.declared.Answer.TheVariants.{Done}
 use Rattle.answers.specs.Answers.{unless, and_then}
 use Rattle.records.specs.Layout.{header_length, element_length, ternary_length, block_length, seed_length, key_body_length}
-use Rattle.records.specs.Layout.{first_place, second_place, third_place, tag_place, inverse_place, seed_place, seeded_bPlace}
+use Rattle.records.specs.Layout.{first_place, second_place, third_place, tag_place, inverse_place, seed_place, seeded_b_place}
 use Rattle.records.specs.Layout.{public_key_mark, seeded_key_mark, secret_key_mark, sealed_entry_mark, secret_key_version, expanded_key_version}
 
 -- k bytes from place i on
@@ -132,7 +132,7 @@ abbrev pub seed_of : List ℕ → List ℕ
 seed_of bytes = part seed_place seed_length bytes
 
 abbrev pub seeded_b : List ℕ → List ℕ
-seeded_b bytes = element_of (part seeded_bPlace element_length bytes)
+seeded_b bytes = element_of (part seeded_b_place element_length bytes)
 
 -- 2, 3, then 4
 unfoldable pub seeded_record_answer : List ℕ → Answer
