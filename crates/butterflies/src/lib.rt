@@ -9,6 +9,8 @@ ghost use Rattle.butterflies.specs.Layers.{forward_layer, pairs, halves, unzippe
 
 use twiddles::HALF;
 
+// The loops here are by index: of what a loop over a zip of mutable iterators has written, the library's contracts say nothing.
+
 // A layer to values: x and y of a pair go to x + f y and x - f y, where f is its factor.
 pub fn forward_layer(r: &mut [u16], a: &[u16], w: &[u16], k: usize)
     requires r_len { (length r.old ≡ degree) × (length a.now ≡ degree) × Below q a.now × (k < 10) }

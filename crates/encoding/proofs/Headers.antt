@@ -1,12 +1,14 @@
 -- Laws of marks, versions and headers.
-use mathlib.Core.Path.{◌≡◌, refl, sym}
-use mathlib.Core.Bool.{Bool, true, ◌&&◌}
+use mathlib.Core.Path.{◌≡◌, refl, sym, ◌∙◌}
+use mathlib.Core.Bool.{Bool, true, false, false≢true, ◌&&◌}
 use mathlib.Core.List.{List, [], ◌∷◌, ◌++◌}
 use Prim.Native.Nat.{ℕ, suc, ◌/◌, ◌%◌, ◌<◌, ◌≤◌}
 use native.Mathlib.Omega.{arith}
 use lib.Dec.{eqb, leb}
-use lib.ListN.{length, get_or, take, set}
-use borrow.Author.Tests.{le-leb, eq-eqb, eqb-true}
+use lib.ListN.{length, get_or, take, drop}
+use borrow.Rule.Slice.PartMut.{put_mid}
+use Rattle.std.specs.List.{starts_with}
+use borrow.Author.Tests.{le-leb, eq-eqb, ne_eqb, eqb-true}
 use Rattle.lists.proofs.Both.{both}
 use Rattle.lists.proofs.Maps.{cons}
 use Rattle.algebra.specs.Numbers.{Below}
@@ -54,13 +56,53 @@ header_of mark (b0 ∷ b1 ∷ []) h b e = absurd (omega arith)
 header_of mark (b0 ∷ b1 ∷ b2 ∷ []) h b e = absurd (omega arith)
 header_of mark (b0 ∷ b1 ∷ b2 ∷ b3 ∷ []) h b e = absurd (omega arith)
 
--- a header that is stored byte by byte
-pub header_stored : (mark : List ℕ) (version : ℕ) (old : List ℕ) → 5 ≤ length old
-    → set (set (set (set (set old 0 (get_or mark 0 0)) 1 (get_or mark 1 0)) 2 (get_or mark 2 0)) 3 (version % 256)) 4 (version / 256 % 256) ≡ put_front (header mark version) old
+-- a mark and a version that are stored one after the other
+pub header_stored : (mark : List ℕ) (version : ℕ) (old : List ℕ) → length mark ≡ 3 → 5 ≤ length old
+    → put_mid 3 2 (mark ++ drop 3 old) (version % 256 ∷ version / 256 % 256 ∷ []) ≡ put_front (header mark version) old
 unfolding header
-header_stored mark version (a ∷ b ∷ c ∷ d ∷ e ∷ old) h = sym (put-fits (header mark version) (a ∷ b ∷ c ∷ d ∷ e ∷ old) h)
-header_stored mark version [] h = absurd (omega arith)
-header_stored mark version (a ∷ []) h = absurd (omega arith)
-header_stored mark version (a ∷ b ∷ []) h = absurd (omega arith)
-header_stored mark version (a ∷ b ∷ c ∷ []) h = absurd (omega arith)
-header_stored mark version (a ∷ b ∷ c ∷ d ∷ []) h = absurd (omega arith)
+header_stored (x ∷ y ∷ z ∷ []) version (a ∷ b ∷ c ∷ d ∷ e ∷ old) l h = sym (put-fits (header (x ∷ y ∷ z ∷ []) version) (a ∷ b ∷ c ∷ d ∷ e ∷ old) h)
+header_stored [] version old l h = absurd (omega arith)
+header_stored (x ∷ []) version old l h = absurd (omega arith)
+header_stored (x ∷ y ∷ []) version old l h = absurd (omega arith)
+header_stored (x ∷ y ∷ z ∷ w ∷ mark) version old l h = absurd (omega arith)
+header_stored (x ∷ y ∷ z ∷ []) version [] l h = absurd (omega arith)
+header_stored (x ∷ y ∷ z ∷ []) version (a ∷ []) l h = absurd (omega arith)
+header_stored (x ∷ y ∷ z ∷ []) version (a ∷ b ∷ []) l h = absurd (omega arith)
+header_stored (x ∷ y ∷ z ∷ []) version (a ∷ b ∷ c ∷ []) l h = absurd (omega arith)
+header_stored (x ∷ y ∷ z ∷ []) version (a ∷ b ∷ c ∷ d ∷ []) l h = absurd (omega arith)
+
+eqb_sym : (a b : ℕ) → eqb a b ≡ eqb b a
+eqb_sym a b = by (eqb a b) refl
+  where
+    by : (t : Bool) → eqb a b ≡ t → eqb a b ≡ eqb b a
+    by true e = e ∙ sym (eq-eqb b a (sym (eqb-true a b e)))
+    by false e = e ∙ sym (ne_eqb b a (λ h. false≢true (sym e ∙ eq-eqb a b (sym h))))
+
+-- three tests, in two orders
+in_order : (p q r : Bool) → p && (q && (r && true)) ≡ p && q && r
+in_order true true true = refl
+in_order true true false = refl
+in_order true false r = refl
+in_order false q r = refl
+
+too_short : (p q : Bool) → p && (q && false) ≡ false
+too_short true true = refl
+too_short true false = refl
+too_short false q = refl
+
+too_short_by_two : (p : Bool) → p && false ≡ false
+too_short_by_two true = refl
+too_short_by_two false = refl
+
+-- a mark of three bytes stands in front
+pub starts : (mark bytes : List ℕ) → length mark ≡ 3 → starts_with eqb bytes mark ≡ has_mark mark bytes
+unfolding has_mark
+starts (x ∷ y ∷ z ∷ []) (a ∷ b ∷ c ∷ rest) l =
+    rw (le-leb 3 (suc (suc (suc (length rest)))) (omega arith), eqb_sym x a, eqb_sym y b, eqb_sym z c) (in_order (eqb a x) (eqb b y) (eqb c z))
+starts (x ∷ y ∷ z ∷ []) [] l = refl
+starts (x ∷ y ∷ z ∷ []) (a ∷ []) l = too_short_by_two (eqb x a)
+starts (x ∷ y ∷ z ∷ []) (a ∷ b ∷ []) l = too_short (eqb x a) (eqb y b)
+starts [] bytes l = absurd (omega arith)
+starts (x ∷ []) bytes l = absurd (omega arith)
+starts (x ∷ y ∷ []) bytes l = absurd (omega arith)
+starts (x ∷ y ∷ z ∷ w ∷ mark) bytes l = absurd (omega arith)

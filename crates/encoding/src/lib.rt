@@ -1,6 +1,7 @@
 // Ring elements, ternary polynomials and headers of records as bytes: document 01, "Bytes".
 // Every function takes bytes and buffers of any length. A decoder counts missing bytes as zeros; an encoder writes at the front of
-// its buffer, and leaves a buffer that is too short as it came. Nothing here branches on a secret coefficient or indexes by one.
+// its buffer, and leaves a buffer that is too short as it came. Nothing here branches on a secret coefficient or indexes by one. What writes
+// words, codes or bytes does so by index: of what a zip of mutable iterators has written, the library's contracts say nothing.
 #![tactic(auto)]
 
 ghost use Rattle.std.specs.Prelude.{◌≡◌, [], ◌∷◌, ◌+◌, ◌*◌, ◌<◌, get_or};
@@ -31,7 +32,7 @@ const MINUS_ONE: u16 = Q - 1;
 pub fn word(low: u8, high: u8) -> u16
     ensures { result ≡ low + 256 * high }
 {
-    low as u16 + 256 * (high as u16)
+    u16::from_le_bytes([low, high])
 }
 
 // The first 1,024 words, reduced or not.
@@ -39,23 +40,18 @@ pub fn decode_element(bytes: &[u8]) -> Element
     ensures { result ≡ element_of bytes.now }
 {
     let mut a = [0u16; DEGREE];
-    let count = octets::lesser(bytes.len() / 2, DEGREE);
+    let count = (bytes.len() / 2).min(DEGREE);
     for k in 0..count {
         a[k] = word(bytes[2 * k], bytes[2 * k + 1]);
     }
     a
 }
 
-// The place of the first word that is 59,393 or more, and 1,024 where there is none.
+// The place of the first word that is 59,393 or more, and 1,024 where there is none: a number, as the definition has it, and so the theorems.
 pub fn first_unreduced(a: Element) -> usize
     ensures { result ≡ first_unreduced a }
 {
-    for k in 0..DEGREE {
-        if a[k] >= Q {
-            return k;
-        }
-    }
-    DEGREE
+    a.iter().position(|x| *x >= Q).unwrap_or(DEGREE)
 }
 
 // Writes the 2,048 bytes of the words.
@@ -64,9 +60,9 @@ pub fn encode_element(a: Element, out: &mut [u8])
 {
     if out.len() >= ELEMENT_LENGTH {
         for k in 0..DEGREE {
-            let w = a[k];
-            out[2 * k] = (w % 256) as u8;
-            out[2 * k + 1] = (w / 256) as u8;
+            let [low, high] = a[k].to_le_bytes();
+            out[2 * k] = low;
+            out[2 * k + 1] = high;
         }
     }
 }
@@ -85,7 +81,7 @@ pub fn decode_ternary(bytes: &[u8]) -> Element
     ensures { result ≡ ternary_of bytes.now }
 {
     let mut t = [0u16; DEGREE];
-    let count = octets::lesser(bytes.len(), TERNARY_LENGTH);
+    let count = bytes.len().min(TERNARY_LENGTH);
     for i in 0..count {
         let b = bytes[i];
         let k = 4 * i;
@@ -120,11 +116,12 @@ fn invalid_in(b: u8) -> usize
     4
 }
 
-// The place of the first code 3 in the first 256 bytes, and 1,024 where there is none. Nothing is told of the other codes.
+// The place of the first code 3 in the first 256 bytes, and 1,024 where there is none: a number, as the definition has it, and so the
+// theorems. Nothing is told of the other codes.
 pub fn first_invalid_code(bytes: &[u8]) -> usize
     ensures { result ≡ first_invalid_code bytes.now }
 {
-    let count = octets::lesser(bytes.len(), TERNARY_LENGTH);
+    let count = bytes.len().min(TERNARY_LENGTH);
     for i in 0..count {
         let j = invalid_in(bytes[i]);
         if j < 4 {
@@ -166,10 +163,7 @@ pub fn encode_ternary(t: Element, out: &mut [u8])
 pub fn has_mark(bytes: &[u8], mark: [u8; MARK_LENGTH]) -> bool
     ensures { result ≡ has_mark mark bytes.now }
 {
-    (bytes.len() >= MARK_LENGTH)
-        & (octets::byte_at(bytes, 0) == mark[0])
-        & (octets::byte_at(bytes, 1) == mark[1])
-        & (octets::byte_at(bytes, 2) == mark[2])
+    bytes.starts_with(&mark)
 }
 
 // The version after the mark.
@@ -184,10 +178,7 @@ pub fn encode_header(mark: [u8; MARK_LENGTH], version: u16, out: &mut [u8])
     ensures { out.new ≡ put_front (header mark version) out.old }
 {
     if out.len() >= HEADER_LENGTH {
-        out[0] = mark[0];
-        out[1] = mark[1];
-        out[2] = mark[2];
-        out[3] = (version % 256) as u8;
-        out[4] = (version / 256) as u8;
+        out[..MARK_LENGTH].copy_from_slice(&mark);
+        out[MARK_LENGTH..HEADER_LENGTH].copy_from_slice(&version.to_le_bytes());
     }
 }

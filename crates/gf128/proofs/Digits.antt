@@ -8,12 +8,31 @@ use lib.Arith.{lt-one, digits_lt}
 use lib.Bits.{bit_xor, xor_block}
 use lib.ListN.{length, get_or, take, drop, length-drop, take-append-drop}
 use lib.Pow.{shr-shr}
-use lib.Seq.{take_all, length-take-le}
-use Rattle.lists.specs.Table.{table, table_from}
+use lib.Seq.{ext_get_or, take_all, length-take-le}
+use Rattle.std.specs.Int.{w64, to_le_bytes}
+use Rattle.octets.specs.Words.{word64_at}
+use borrow.Rule.Slice.PartMut.{put_mid}
+use Rattle.lists.specs.Table.{table, table_from, zeros}
 use Rattle.lists.proofs.Maps.{cons}
 use Rattle.gf128.specs.Bytes.{number, bytes}
-use Rattle.gf128.specs.Words.{eight_at}
 use Rattle.lists.proofs.ByteLists.{Small, part-get_or}
+
+-- the eight bytes from a place on
+abbrev pub eight_at : List ℕ → ℕ → List ℕ
+eight_at b at =
+    get_or b at 0
+    ∷ get_or b (at + 1) 0
+    ∷ get_or b (at + 2) 0
+    ∷ get_or b (at + 3) 0
+    ∷ get_or b (at + 4) 0
+    ∷ get_or b (at + 5) 0
+    ∷ get_or b (at + 6) 0
+    ∷ get_or b (at + 7) 0
+    ∷ []
+
+-- as a word
+pub number_eight : (b : List ℕ) (at : ℕ) → word64_at b at ≡ number (eight_at b at)
+number_eight b at = omega arith
 
 part_eight : (i : ℕ) (a : List ℕ) → i + 8 ≤ length a → take 8 (drop i a) ≡ eight_at a i
 unfolding table table_from
@@ -64,6 +83,21 @@ get_or-bytes (suc n) v (suc k) h =
     let e : 8 + 8 * k ≡ 8 * suc k = omega arith in
     get_or-bytes n (v / 256) k (omega arith) ∙ ap (λ (x : ℕ). x % 256) (shr-shr v 8 (8 * k) ∙ ap (λ (j : ℕ). v / 2 ^ j) e)
 
+-- the library's bytes of a word
+pub bytes_eight : (v : ℕ) → to_le_bytes w64 v ≡ bytes 8 v
+bytes_eight v = ext_get_or 0 (to_le_bytes w64 v) (bytes 8 v) (sym (length-bytes 8 v)) (λ k h. at k h ∙ sym (get_or-bytes 8 v k h))
+  where
+    at : (k : ℕ) → k < 8 → get_or (to_le_bytes w64 v) k 0 ≡ v / 2 ^ (8 * k) % 256
+    at zero h = rw (div-one v)
+    at (suc zero) h = refl
+    at (suc (suc zero)) h = refl
+    at (suc (suc (suc zero))) h = refl
+    at (suc (suc (suc (suc zero)))) h = refl
+    at (suc (suc (suc (suc (suc zero))))) h = refl
+    at (suc (suc (suc (suc (suc (suc zero)))))) h = refl
+    at (suc (suc (suc (suc (suc (suc (suc zero))))))) h = refl
+    at (suc (suc (suc (suc (suc (suc (suc (suc k)))))))) h = absurd (omega arith)
+
 low_digit : (w p v : ℕ) → (w * (p * 256) + v) % 256 ≡ v % 256
 low_digit w p v = omega arith
 
@@ -78,6 +112,11 @@ bytes-append (suc n) m w v h =
     let k : v < 256 ^ n * 256 = rw (pow-suc 256 n) at h in
     let g : v / 256 < 256 ^ n = omega arith in
     rw (e, pow-suc 256 n, low_digit w (256 ^ n) v, other_digits w (256 ^ n) v, bytes-append n m w (v / 256) g)
+
+-- sixteen bytes of which both halves were written
+pub put_halves : (v w : ℕ) (x y : List ℕ) → x ≡ bytes 8 v → y ≡ bytes 8 w → put_mid 8 8 (x ++ zeros 8) y ≡ bytes 8 v ++ bytes 8 w
+unfolding bytes
+put_halves v w x y e f = rw (e, f)
 
 -- ---- there and back
 

@@ -7,7 +7,7 @@ ghost use Rattle.std.specs.Int.Bits.{bit_xor};
 ghost use Rattle.lists.specs.Bits.{bit};
 ghost use Rattle.gf128.specs.Field.{times};
 ghost use Rattle.gf128.specs.Bytes.{number, bytes, sum, product, equal, folded, tag};
-ghost use Rattle.gf128.specs.Words.{value, times_x, eight_at};
+ghost use Rattle.gf128.specs.Words.{value, times_x};
 
 // A polynomial of degree below 128: the coefficients of x^0 to x^63 are the bits of lo, the others those of hi.
 #[derive(Clone, Copy)]
@@ -18,22 +18,14 @@ struct Element {
 
 // ---- elements as bytes
 
-// The word of eight bytes from a place on.
-fn word(b: &[u8], at: usize) -> u64
-    requires { at + 8 ≤ length b.now }
-    ensures { result ≡ number (eight_at b.now at) }
-{
-    octets::word64_at(b, at)
-}
-
 // The element of 16 bytes.
 fn load(b: &[u8]) -> Element
     requires { length b.now ≡ 16 }
     ensures { value result ≡ number b.now }
 {
     Element {
-        lo: word(b, 0),
-        hi: word(b, 8),
+        lo: octets::word64_at(b, 0),
+        hi: octets::word64_at(b, 8),
     }
 }
 
@@ -42,10 +34,8 @@ fn store(e: Element) -> [u8; 16]
     ensures { result ≡ bytes 16 (value e) }
 {
     let mut r = [0u8; 16];
-    for i in 0..8 {
-        r[i] = ((e.lo >> (8 * i)) % 256) as u8;
-        r[8 + i] = ((e.hi >> (8 * i)) % 256) as u8;
-    }
+    r[..8].copy_from_slice(&e.lo.to_le_bytes());
+    r[8..].copy_from_slice(&e.hi.to_le_bytes());
     r
 }
 
@@ -98,9 +88,7 @@ fn mul(a: Element, b: Element) -> Element
     ensures { value result ≡ times (value a) (value b) }
 {
     let mut r = Element { lo: 0, hi: 0 };
-    let mut i: usize = 128;
-    while 0 < i {
-        i -= 1;
+    for i in (0..128).rev() {
         r = add(times_x(r), times_bit(a, coefficient(b, i)));
     }
     r
@@ -122,7 +110,8 @@ fn fold(k: Element, start: Element, blocks: &[u8]) -> Element
 
 // ---- on bytes
 
-// Adds a string to a buffer of its length, each byte xor each byte: body and entries come from each other so, by the keystream.
+// Adds a string to a buffer of its length, each byte xor each byte: body and entries come from each other so, by the keystream. By index: of
+// what a zip of mutable iterators has written, the library's contracts say nothing.
 pub fn add_to(a: &[u8], out: &mut [u8])
     requires { length a.now ≡ length out.old }
     ensures { out.new ≡ sum a.now out.old }
@@ -157,8 +146,8 @@ pub fn equal(a: [u8; 16], b: [u8; 16]) -> bool
     ensures { result ≡ equal a b }
 {
     let mut difference: u8 = 0;
-    for i in 0..16 {
-        difference = difference | (a[i] ^ b[i]);
+    for (x, y) in a.iter().zip(&b) {
+        difference |= x ^ y;
     }
     difference == 0
 }

@@ -22,7 +22,7 @@ pub fn complemented(a: [[u64; 5]; 5]) -> [[u64; 5]; 5]
     ]
 }
 
-// Algorithm 4 on plane 0, complemented in part before and after.
+// Algorithm 4 on plane 0, complemented in part before and after: a function a plane, since each has its complements at lanes of its own.
 fn chi_0(p: [u64; 5]) -> [u64; 5]
     ensures { result ≡ complemented_chi_plane 0 p }
 {

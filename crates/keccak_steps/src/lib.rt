@@ -4,8 +4,6 @@
 
 ghost use Rattle.std.specs.Prelude.{◌≡◌, [], ◌∷◌, ◌+◌, ◌*◌, ◌%◌, ◌<◌, get_or};
 ghost use Rattle.std.specs.Int.Bits.{bit_xor};
-ghost use Rattle.lists.specs.Table.{table};
-ghost use Rattle.keccak_steps.specs.Constants.{round_constant};
 ghost use Rattle.keccak_steps.specs.Steps.{lane, plane, rotate, parity, theta, rho, pi, iota};
 
 // The lanes of two planes added.
@@ -118,12 +116,40 @@ pub fn pi(a: [[u64; 5]; 5]) -> [[u64; 5]; 5]
     ]
 }
 
+// RC of each round, from algorithm 6.
+static ROUND_CONSTANTS: [u64; 24] = [
+    0x0000000000000001,
+    0x0000000000008082,
+    0x800000000000808A,
+    0x8000000080008000,
+    0x000000000000808B,
+    0x0000000080000001,
+    0x8000000080008081,
+    0x8000000000008009,
+    0x000000000000008A,
+    0x0000000000000088,
+    0x0000000080008009,
+    0x000000008000000A,
+    0x000000008000808B,
+    0x800000000000008B,
+    0x8000000000008089,
+    0x8000000000008003,
+    0x8000000000008002,
+    0x8000000000000080,
+    0x000000000000800A,
+    0x800000008000000A,
+    0x8000000080008081,
+    0x8000000000008080,
+    0x0000000080000001,
+    0x8000000080008008,
+];
+
 // Algorithm 6.
-pub fn iota(a: [[u64; 5]; 5], ir: usize, constants: &[u64; 24]) -> [[u64; 5]; 5]
-    requires { (ir < 24) × (constants.now ≡ table 24 round_constant) }
+pub fn iota(a: [[u64; 5]; 5], ir: usize) -> [[u64; 5]; 5]
+    requires { ir < 24 }
     ensures { result ≡ iota ir a }
 {
     let mut b = a;
-    b[0][0] = b[0][0] ^ constants[ir];
+    b[0][0] = b[0][0] ^ ROUND_CONSTANTS[ir];
     b
 }

@@ -12,3 +12,4 @@ pub mod Finite
 pub mod Bits
 pub mod Xor
 pub mod ByteLists
+pub mod FromFn

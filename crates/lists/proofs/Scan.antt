@@ -1,16 +1,18 @@
 -- The invariant of every loop that looks for the first entry of a list that fails a test.
 use mathlib.Core.Path.{◌≡◌, refl, sym, ap, ◌∙◌}
-use mathlib.Core.Bool.{Bool, true, false, cond, false≢true}
+use mathlib.Core.Bool.{Bool, true, false, cond, not, ◌&&◌, ◌||◌, false≢true}
 use mathlib.Core.List.{List, [], ◌∷◌}
 use Prim.Native.Nat.{ℕ, zero, suc, ◌+◌, ◌-◌, ◌<◌, ◌≤◌}
-use native.Mathlib.Nat.{zero-add}
+use native.Mathlib.Nat.{zero-add, suc_inj}
 use native.Mathlib.Numerals.{add-one}
 use native.Mathlib.Omega.{arith}
 use native.Mathlib.Decide.{dec_le}
-use lib.Dec.{leb, eqb}
+use lib.Dec.{leb, ltb, eqb}
 use lib.ListN.{length, get_or, drop, length-drop}
 use lib.Seq.{drop-cons, drop-length, get_or-drop}
-use borrow.Author.Tests.{le-leb, lt-leb, eq-eqb, ne_eqb}
+use borrow.Author.Tests.{lt-ltb, le-ltb, ltb-true, ltb-false, eqb-true, le-leb, lt-leb, eq-eqb, ne_eqb}
+use Rattle.std.specs.Prelude.{Some, None, unwrap_or}
+use Rattle.std.specs.List.{fold, position_or_len}
 use Rattle.lists.specs.First.{first_failing}
 
 -- the first i entries of xs pass
@@ -140,3 +142,73 @@ scanned_all {good} {xs} {all} {i} s h = s.so_far ∙ by (dec_le i f)
     by : Dec (i ≤ f) → leb i f ≡ eqb f (length xs)
     by (yes l) = le-leb i f l ∙ sym (eq-eqb f (length xs) (omega (arith, s.within, first-within good xs)))
     by (no l) = lt-leb i f (omega arith) ∙ sym (ne_eqb f (length xs) (λ e. l (omega (arith, s.within, e))))
+
+-- ---- the library's search for the first entry that a test finds
+
+module _ (good bad : ℕ → Bool) where
+  place_of : (xs : List ℕ) → ((x : ℕ) → bad x ≡ not (good x)) → position_or_len bad xs ≡ first_failing good xs
+  unfolding first_failing
+  place_of [] h = refl
+  place_of (x ∷ xs) h = by (good x) refl (place_of xs h)
+    where
+      by : (t : Bool) → good x ≡ t → position_or_len bad xs ≡ first_failing good xs
+          → position_or_len bad (x ∷ xs) ≡ cond (good x) (suc (first_failing good xs)) 0
+      by true e rest = rw (h x, e) (omega (arith, rest))
+      by false e rest = rw (h x, e)
+
+  -- its place, and the length where there is none
+  pub position-first : (xs : List ℕ) (n : ℕ) → length xs ≡ n → ((x : ℕ) → bad x ≡ not (good x))
+      → unwrap_or (cond (ltb (position_or_len bad xs) (length xs)) (Some (position_or_len bad xs)) None) n ≡ first_failing good xs
+  position-first xs n size h = rw (place_of xs h) (by (ltb (first_failing good xs) (length xs)) refl)
+    where
+      by : (t : Bool) → ltb (first_failing good xs) (length xs) ≡ t
+          → unwrap_or (cond (ltb (first_failing good xs) (length xs)) (Some (first_failing good xs)) None) n ≡ first_failing good xs
+      by true e = rw e
+      by false e = rw e (omega (arith, first-within good xs, ltb-false (first_failing good xs) (length xs) e))
+
+-- ---- a fold over all entries, with no early end: whether every entry passes, and whether some entry fails
+
+eqb_suc : (a b : ℕ) → eqb a b ≡ eqb (suc a) (suc b)
+eqb_suc a b = by (eqb a b) refl
+  where
+    by : (t : Bool) → eqb a b ≡ t → eqb a b ≡ eqb (suc a) (suc b)
+    by true e = e ∙ sym (eq-eqb (suc a) (suc b) (ap suc (eqb-true a b e)))
+    by false e = e ∙ sym (ne_eqb (suc a) (suc b) (λ h. false≢true (sym e ∙ eq-eqb a b (suc_inj h))))
+
+ltb_suc : (a b : ℕ) → ltb a b ≡ ltb (suc a) (suc b)
+ltb_suc a b = by (ltb a b) refl
+  where
+    by : (t : Bool) → ltb a b ≡ t → ltb a b ≡ ltb (suc a) (suc b)
+    by true e = e ∙ sym (lt-ltb (suc a) (suc b) (omega (arith, ltb-true a b e)))
+    by false e = e ∙ sym (le-ltb (suc a) (suc b) (omega (arith, ltb-false a b e)))
+
+module _ (good : ℕ → Bool) where
+  all-from : (t : Bool) (xs : List ℕ) → fold (λ (s : Bool) (x : ℕ). s && good x) t xs ≡ t && eqb (first_failing good xs) (length xs)
+  unfolding first_failing
+  all-from true [] = refl
+  all-from false [] = refl
+  all-from t (x ∷ xs) = by t (good x) refl (all-from (t && good x) xs)
+    where
+      by : (t g : Bool) → good x ≡ g → fold (λ (s : Bool) (x : ℕ). s && good x) (t && good x) xs ≡ (t && good x) && eqb (first_failing good xs) (length xs)
+          → fold (λ (s : Bool) (x : ℕ). s && good x) (t && good x) xs ≡ t && eqb (cond (good x) (suc (first_failing good xs)) 0) (suc (length xs))
+      by true true e rest = rest ∙ rw e (eqb_suc (first_failing good xs) (length xs))
+      by true false e rest = rest ∙ rw e (sym (ne_eqb 0 (suc (length xs)) (λ z. omega arith)))
+      by false g e rest = rest
+
+  pub fold_all : (xs : List ℕ) → fold (λ (s : Bool) (x : ℕ). s && good x) true xs ≡ eqb (first_failing good xs) (length xs)
+  fold_all xs = all-from true xs
+
+  some-from : (t : Bool) (xs : List ℕ) → fold (λ (s : Bool) (x : ℕ). s || not (good x)) t xs ≡ t || ltb (first_failing good xs) (length xs)
+  unfolding first_failing
+  some-from true [] = refl
+  some-from false [] = refl
+  some-from t (x ∷ xs) = by t (good x) refl (some-from (t || not (good x)) xs)
+    where
+      by : (t g : Bool) → good x ≡ g → fold (λ (s : Bool) (x : ℕ). s || not (good x)) (t || not (good x)) xs ≡ (t || not (good x)) || ltb (first_failing good xs) (length xs)
+          → fold (λ (s : Bool) (x : ℕ). s || not (good x)) (t || not (good x)) xs ≡ t || ltb (cond (good x) (suc (first_failing good xs)) 0) (suc (length xs))
+      by true g e rest = rest
+      by false true e rest = rest ∙ rw e (ltb_suc (first_failing good xs) (length xs))
+      by false false e rest = rest ∙ rw e (sym (lt-ltb 0 (suc (length xs)) (omega arith)))
+
+  pub fold_some : (xs : List ℕ) → fold (λ (s : Bool) (x : ℕ). s || not (good x)) false xs ≡ ltb (first_failing good xs) (length xs)
+  fold_some xs = some-from false xs

@@ -1,4 +1,2 @@
--- No entry passes the largest size, one reaches it; and the invariant of a loop that looks for it.
+-- No entry passes the largest size, one reaches it; and the largest size by a fold.
 pub mod LargestLaws
--- For the proof of `size`.
-pub mod Sizes

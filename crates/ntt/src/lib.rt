@@ -7,6 +7,7 @@ ghost use Rattle.algebra.specs.Numbers.{mul_mod, Below, reduced, scale};
 ghost use Rattle.ntt.specs.Spectrum.{q, degree, inverse_degree, spectrum_of, coefficients_of, pointwise};
 ghost use Rattle.ntt.specs.Factors.{forward_factors, backward_factors, backward_layers};
 
+use std::array;
 pub use twiddles::{DEGREE, FACTORS, backward_factors, forward_factors};
 use twiddles::{HALF, LAYERS};
 
@@ -15,17 +16,16 @@ pub type Element = [u16; DEGREE];
 
 pub type Spectrum = [u16; DEGREE];
 
+// The tables of factors stay slices, each with its fact in the contract. `forward` and `backward`, `scheme::check_key`, `core` and `decapsulate`,
+// `secret_keys::read_secret_key` and `recovery::recover` are promised so (docs/PROMISES.md); a type that holds the tables would ask for more.
+
 // ---- coefficients to values
 
 // A copy of a, each word brought below q.
 fn reduced(a: Element) -> Element
     ensures { result ≡ reduced q degree a }
 {
-    let mut r = [0u16; DEGREE];
-    for i in 0..DEGREE {
-        r[i] = modq::reduce(a[i]);
-    }
-    r
+    array::from_fn(|i| modq::reduce(a[i]))
 }
 
 // The value of a at each root of X^1024 + 1. Two layers a turn, to and fro between two arrays.
@@ -98,11 +98,7 @@ fn multiply(x: u16, y: u16) -> u16
 pub fn pointwise(a: Spectrum, b: Spectrum) -> Spectrum
     ensures { result ≡ pointwise a b }
 {
-    let mut r = [0u16; DEGREE];
-    for i in 0..DEGREE {
-        r[i] = multiply(a[i], b[i]);
-    }
-    r
+    array::from_fn(|i| multiply(a[i], b[i]))
 }
 
 // The same, divided by 1024: 36794 is 2^22 modulo q, so the first product is Montgomery's form of x / 1024.
@@ -115,11 +111,7 @@ fn divided_product(x: u16, y: u16) -> u16
 fn divided_pointwise(a: Spectrum, b: Spectrum) -> Spectrum
     ensures { result ≡ scale q degree inverse_degree (pointwise a b) }
 {
-    let mut r = [0u16; DEGREE];
-    for i in 0..DEGREE {
-        r[i] = divided_product(a[i], b[i]);
-    }
-    r
+    array::from_fn(|i| divided_product(a[i], b[i]))
 }
 
 // The polynomial whose values are the products of those in a and b. The division by 1024 is part of these products.

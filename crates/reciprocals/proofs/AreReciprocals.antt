@@ -1,6 +1,6 @@
 -- Whether two lists are reciprocal to each other, entry by entry, and what the answer says.
-use mathlib.Core.Path.{◌≡◌, sym, ap, ◌∙◌}
-use mathlib.Core.Bool.{Bool, true, false}
+use mathlib.Core.Path.{◌≡◌, refl, sym, ap, ◌∙◌}
+use mathlib.Core.Bool.{Bool, true, false, false≢true, ◌&&◌}
 use mathlib.Core.Logic.{◌↔◌, ◌≢◌}
 use mathlib.Core.List.{List}
 use Prim.Native.Nat.{ℕ, ◌+◌, ◌<◌, ◌≤◌}
@@ -20,6 +20,14 @@ abbrev is_one : ℕ → Bool
 is_one p = eqb p 1
 
 -- the invariant of the loop: whether the first i products are 1
+and_true : (t : Bool) → t && true ≡ t
+and_true true = refl
+and_true false = refl
+
+and_false : (t : Bool) → t && false ≡ false
+and_false true = refl
+and_false false = refl
+
 abbrev pub Multiplied : (x y : List ℕ) (all : Bool) (i : ℕ) → Type 0
 Multiplied x y all i = Scanned is_one (pointwise x y) all i
 
@@ -36,6 +44,14 @@ module _ (x y : List ℕ) where
 
     pub multiplied_fail : i < degree → mul_mod q (get_or x i 0) (get_or y i 0) ≢ 1 → Multiplied x y false (i + 1)
     multiplied_fail h f = scanned_fail m (omega (arith, size)) (ne_eqb _ 1 (λ e. f (sym (pointwise-at x y i h) ∙ e)))
+
+    -- one entry more, whatever its product is
+    pub multiplied_next : i < degree → (v : ℕ) → v ≡ mul_mod q (get_or x i 0) (get_or y i 0) → Multiplied x y (all && eqb v 1) (i + 1)
+    multiplied_next h v e = by (eqb v 1) refl
+      where
+        by : (t : Bool) → eqb v 1 ≡ t → Multiplied x y (all && eqb v 1) (i + 1)
+        by true f = rw (f, and_true all) (multiplied_pass h (sym e ∙ eqb-true v 1 f))
+        by false f = rw (f, and_false all) (multiplied_fail h (λ z. false≢true (sym f ∙ eq-eqb v 1 (e ∙ z))))
 
     pub multiplied_all : degree ≤ i → all ≡ are_reciprocals x y
     unfolding are_reciprocals

@@ -1,29 +1,15 @@
 -- Whether some entry is zero, and what the answer says.
-use mathlib.Core.Path.{◌≡◌, sym, ap, ◌∙◌}
-use mathlib.Core.Bool.{Bool, true, false, not}
+use mathlib.Core.Path.{◌≡◌, ap}
+use mathlib.Core.Bool.{true, false, not}
 use mathlib.Core.Logic.{◌≢◌}
 use mathlib.Core.List.{List}
-use Prim.Native.Nat.{ℕ, ◌%◌, ◌<◌, ◌≤◌}
-use native.Mathlib.Decide.{dec_lt}
-use native.Mathlib.Omega.{arith}
-use lib.Dec.{ltb}
+use Prim.Native.Nat.{ℕ, ◌%◌, ◌<◌}
 use lib.ListN.{length, get_or}
-use borrow.Author.Tests.{lt-ltb, le-ltb, ltb-true, ltb-false, eq-eqb, ne_eqb, eqb-true, eqb-false, not-true, not-false}
+use borrow.Author.Tests.{ltb-true, ltb-false, eq-eqb, ne_eqb, eqb-true, eqb-false, not-true, not-false}
 use Rattle.lists.specs.First.{first_failing}
-use Rattle.lists.proofs.Scan.{Scanned, scanned_all, first-within, first_passes, first-fails}
+use Rattle.lists.proofs.Scan.{first_passes, first-fails}
 use Rattle.ntt.specs.Spectrum.{q}
 use Rattle.reciprocals.specs.Reciprocals.{is_nonzero, has_zero}
-
-pub zero-scanned : (t : List ℕ) {any : Bool} {i : ℕ} → Scanned is_nonzero t (not any) i → length t ≤ i → any ≡ has_zero t
-unfolding has_zero
-zero-scanned t {any} s h = by (dec_lt f (length t))
-  where
-    f : ℕ
-    f = first_failing is_nonzero t
-
-    by : Dec (f < length t) → any ≡ ltb f (length t)
-    by (yes l) = not-false any (scanned_all s h ∙ ne_eqb f (length t) (λ e. omega arith)) ∙ sym (lt-ltb f (length t) l)
-    by (no l) = not-true any (scanned_all s h ∙ eq-eqb f (length t) (omega (arith, first-within is_nonzero t))) ∙ sym (le-ltb f (length t) (omega arith))
 
 pub nonzero-true : (x : ℕ) → x % q ≢ 0 → is_nonzero x ≡ true
 nonzero-true x h = ap not (ne_eqb (x % q) 0 h)

@@ -13,13 +13,7 @@ use ntt::{DEGREE, Spectrum};
 pub fn has_zero(t: Spectrum) -> bool
     ensures { result ≡ has_zero t }
 {
-    let mut any = false;
-    for j in 0..DEGREE {
-        if modq::reduce(t[j]) == 0 {
-            any = true;
-        }
-    }
-    any
+    t.iter().fold(false, |any, x| any | (modq::reduce(*x) == 0))
 }
 
 // Whether the entries of x and y are reciprocal to each other: every product of two is 1. It looks at all of them, whatever it finds.
@@ -27,10 +21,8 @@ pub fn are_reciprocals(x: Spectrum, y: Spectrum) -> bool
     ensures { result ≡ are_reciprocals x y }
 {
     let mut all = true;
-    for k in 0..DEGREE {
-        if modq::mul(x[k], y[k]) != 1 {
-            all = false;
-        }
+    for (a, b) in x.iter().zip(&y) {
+        all &= modq::mul(*a, *b) == 1;
     }
     all
 }
@@ -41,16 +33,15 @@ pub fn are_reciprocals(x: Spectrum, y: Spectrum) -> bool
 const TREE: usize = 2 * DEGREE;
 
 // Level m of the tree, for m = 1, 2, 4, .., 1,024, is the m entries from m on, and entry m + j stands above 2 m + j and 3 m + j. So a level is
-// made from its neighbour by a loop over entries in a row, and the compiler works on several at a time.
+// made from its neighbour by a loop over entries in a row, and the compiler works on several at a time. The loops are by index: a level and its
+// neighbour are parts of one array, and of what mutable iterators have written the library's contracts say nothing.
 
 // The entries as the lowest level, under zeros.
 fn leaves(t: Spectrum) -> [u16; TREE]
     ensures { result ≡ leaves_of t }
 {
     let mut h = [0u16; TREE];
-    for i in 0..DEGREE {
-        h[DEGREE + i] = t[i];
-    }
+    h[DEGREE..].copy_from_slice(&t);
     h
 }
 
@@ -106,9 +97,7 @@ fn lower_half(h: &[u16; TREE]) -> Spectrum
     ensures { result ≡ drop degree h.now }
 {
     let mut r = [0u16; DEGREE];
-    for i in 0..DEGREE {
-        r[i] = h[DEGREE + i];
-    }
+    r.copy_from_slice(&h[DEGREE..]);
     r
 }
 

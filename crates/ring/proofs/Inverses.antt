@@ -1,10 +1,11 @@
 -- Whether two elements are inverse to each other, by their spectra.
 use mathlib.Core.Path.{◌≡◌, refl, sym, ap, ◌∙◌}
-use mathlib.Core.Bool.{Bool, true, false, false≢true, decide, decide_iff}
+use mathlib.Core.Bool.{Bool, true, false, cond, false≢true, decide, decide_iff}
 use mathlib.Core.List.{List}
 use mathlib.Core.Logic.Iff
 use mathlib.Core.Logic.{◌↔◌}
 use Prim.Native.Nat.{ℕ, suc, ◌<◌}
+use Rattle.std.specs.Prelude.{Some, None, is_some, unwrap_or}
 use native.Mathlib.Nat.{mod-lt, mul-zero}
 use lib.ListN.{length, get_or, set}
 use Rattle.lists.specs.Table.{table, zeros}
@@ -17,8 +18,8 @@ use Rattle.ntt.specs.Spectrum.{spectrum_of, coefficients_of, pointwise}
 use Rattle.ntt.proofs.Spectrum.{pointwise-at}
 use Rattle.reciprocals.specs.Reciprocals.{are_reciprocals}
 use Rattle.reciprocals.proofs.AreReciprocals.{are-reciprocals_iff}
-use Rattle.ring.specs.Ring.{q, n, Element, one, product}
-use Rattle.ring.specs.Invertible.{is_inverse}
+use Rattle.ring.specs.Ring.{q, n, Element, Invertible, one, product}
+use Rattle.ring.specs.Invertible.{is_invertible, witness, inverse_of, is_inverse}
 use Rattle.ring.proofs.RingLaws.{constant-element, one_is}
 use Rattle.ring.proofs.Transforms.{value_of-zeros, product_by-spectra, left_through, right_through}
 use Rattle.ring.proofs.Spectra.{coefficients_through, spectrum_through}
@@ -69,3 +70,17 @@ inverse_through b i hb hi =
   where
     same : product (coefficients_of (spectrum_of b)) (coefficients_of (spectrum_of i)) ≡ product b i
     same = left_through b (coefficients_of (spectrum_of i)) hb ∙ right_through b i hi
+
+-- ---- the inverse, if there is one
+
+found_by : (b : List ℕ) (d : Dec (Invertible b)) → (is_some (cond (decide d) (Some (witness b d)) None) ≡ decide d)
+    × (unwrap_or (cond (decide d) (Some (witness b d)) None) (zeros n) ≡ witness b d)
+unfolding decide
+found_by b (yes i) = (refl, refl)
+found_by b (no none) = (refl, refl)
+
+-- whether there is one, and the inverse, or 1,024 zeros
+pub found : (b : List ℕ) → (is_some (cond (decide (is_invertible b)) (Some (inverse_of b)) None) ≡ decide (is_invertible b))
+    × (unwrap_or (cond (decide (is_invertible b)) (Some (inverse_of b)) None) (zeros n) ≡ inverse_of b)
+unfolding inverse_of
+found b = found_by b (is_invertible b)

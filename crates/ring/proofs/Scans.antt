@@ -1,6 +1,6 @@
 -- Tests of every entry, and what their answers say.
 use mathlib.Core.Path.{◌≡◌, sym, ◌∙◌}
-use mathlib.Core.Bool.{Bool, true}
+use mathlib.Core.Bool.{true}
 use mathlib.Core.Logic.{◌↔◌}
 use mathlib.Core.List.{List}
 use Prim.Native.Nat.{ℕ, ◌-◌, ◌%◌, ◌<◌, ◌≤◌, min}
@@ -10,7 +10,7 @@ use native.Mathlib.Omega.{arith}
 use lib.Dec.{leb}
 use lib.ListN.{length}
 use borrow.Author.Tests.{le-leb, lt-leb, leb-true, eq-eqb, eqb-true}
-use Rattle.lists.proofs.Scan.{Scanned, scanned_all, first-none, first_passes}
+use Rattle.lists.proofs.Scan.{first-none, first_passes}
 use Rattle.ring.specs.Ring.{q, n}
 use Rattle.ring.specs.Centred.{is_near, Within, is_within}
 use Rattle.ring.proofs.Centring.{centred-size}
@@ -30,10 +30,6 @@ near_high k c h = rw (centred-size c) (by (dec_le (q - c % q) k))
     by (no l) = lt-leb _ k (omega arith) ∙ sym (lt-leb _ k (omega arith))
 
 -- ---- every word is near
-
-pub within-scanned : (k : ℕ) (a : List ℕ) {all : Bool} {i : ℕ} → Scanned (is_near k) a all i → length a ≤ i → all ≡ is_within k a
-unfolding is_within
-within-scanned k a s h = scanned_all s h
 
 -- the test is what it says
 pub within_iff : (k : ℕ) (a : List ℕ) → length a ≡ n → (is_within k a ≡ true) ↔ Within k a

@@ -4,6 +4,7 @@ use mathlib.Core.Bool.{Bool, true, false, cond, decide, not}
 use mathlib.Core.List.{List}
 use mathlib.Core.Logic.{◌↔◌, ◌≢◌}
 use Prim.Native.Nat.{ℕ, zero, suc, ◌%◌, ◌<◌}
+use Rattle.std.specs.Prelude.{Some, None}
 use native.Mathlib.Nat.{mod-mod, mul-zero}
 use native.Mathlib.Omega.{arith}
 use lib.ListN.{length, get_or}
@@ -87,6 +88,15 @@ module _ (b : List ℕ) (size : length b ≡ n) where
       (λ k h. ap (λ (l : List ℕ). mul_mod q (get_or l k 0) (get_or w k 0)) (sym (spectrum_of-reduced b size)) ∙ entry k h) in
       let element : Element (coefficients_of w) = coefficients-element w long in
       (sym ((decided (is_invertible b)).0 (coefficients_of w, element, times)), sym (inverse_is b (coefficients_of w) size element times))
+
+  -- the two in one: the inverse of b, if it has one
+  pub inverse_lacks : has_zero (spectrum_of b) ≡ true → None ≡ cond (decide (is_invertible b)) (Some (inverse_of b)) None
+  inverse_lacks z = ap (λ (t : Bool). cond t (Some (inverse_of b)) None) (no-inverse z).0
+
+  pub inverse_found : has_zero (spectrum_of b) ≡ false
+      → Some (coefficients_of (reciprocals_of (spectrum_of b))) ≡ cond (decide (is_invertible b)) (Some (inverse_of b)) None
+  inverse_found z =
+      ap Some (some-inverse z).1 ∙ ap (λ (t : Bool). cond t (Some (inverse_of b)) None) (some-inverse z).0
 
   -- so a spectrum tells whether there is an inverse ..
   pub zero_decides : not (has_zero (spectrum_of b)) ≡ decide (is_invertible b)

@@ -3,7 +3,7 @@
 // The reciprocals of a spectrum, and the test whether there are any, are those of crate reciprocals.
 #![tactic(auto)]
 
-ghost use Rattle.std.specs.Prelude.{◌≡◌};
+ghost use Rattle.std.specs.Prelude.{◌≡◌, Some, None, if◌then◌else◌};
 ghost use Rattle.std.proofs.Math.Bool.{decide};
 ghost use Rattle.ntt.specs.Spectrum.{coefficients_of};
 ghost use Rattle.ntt.specs.Factors.{forward_factors, backward_factors};
@@ -15,6 +15,7 @@ ghost use Rattle.ring.specs.Division.{DivisionExact};
 use modq::Q;
 use ntt::{DEGREE, Element, FACTORS, Spectrum};
 pub use reciprocals::{has_zero, reciprocals};
+use std::array;
 
 // ---- sums and multiples, word by word: of spectra they are the spectra of sums and multiples
 
@@ -29,21 +30,13 @@ pub fn one() -> Element
 pub fn sum(a: Element, b: Element) -> Element
     ensures { result ≡ sum a b }
 {
-    let mut r = [0u16; DEGREE];
-    for k in 0..DEGREE {
-        r[k] = modq::add(a[k], b[k]);
-    }
-    r
+    array::from_fn(|k| modq::add(a[k], b[k]))
 }
 
 pub fn difference(a: Element, b: Element) -> Element
     ensures { result ≡ difference a b }
 {
-    let mut r = [0u16; DEGREE];
-    for k in 0..DEGREE {
-        r[k] = modq::sub(a[k], b[k]);
-    }
-    r
+    array::from_fn(|k| modq::sub(a[k], b[k]))
 }
 
 // c × a.
@@ -149,6 +142,7 @@ pub fn divide_by_5(m: Element) -> ElementDivision
     ensures remainders_value { (result.remainders ≡ remainders m) × (result.quotients ≡ quotients m) }
     ensures division_exact { DivisionExact m result.remainders result.quotients }
 {
+    // one pass fills two arrays: by index, since of what a zip of mutable iterators has written the library's contracts say nothing
     let mut r = [0u16; DEGREE];
     let mut w = [0i16; DEGREE];
     for k in 0..DEGREE {
@@ -181,13 +175,7 @@ fn is_near(x: u16, k: u16) -> bool
 pub fn is_within(a: Element, k: u16) -> bool
     ensures { result ≡ is_within k a }
 {
-    let mut all = true;
-    for i in 0..DEGREE {
-        if !is_near(a[i], k) {
-            all = false;
-        }
-    }
-    all
+    a.iter().fold(true, |all, x| all & is_near(*x, k))
 }
 
 // ---- products and inverses, by the transform. The tables of factors are lent, so that a caller makes them once.
@@ -219,33 +207,20 @@ pub fn product(a: Element, b: Element) -> Element
     product_with(a, b, &w, &v)
 }
 
-// Whether an element has an inverse, and the inverse; 1,024 zeros where it has none.
-#[derive(Clone, Copy)]
-pub struct Inversion {
-    pub exists: bool,
-    pub value: Element,
-}
-
-pub fn inverse_with(b: Element, forward: &[u16], backward: &[u16]) -> Inversion
+// The inverse of an element, if it has one.
+pub fn inverse_with(b: Element, forward: &[u16], backward: &[u16]) -> Option<Element>
     requires { (forward.now ≡ forward_factors) × (backward.now ≡ backward_factors) }
-    ensures { (result.exists ≡ decide (is_invertible b)) × (result.value ≡ inverse_of b) }
+    ensures { result ≡ if decide (is_invertible b) then Some (inverse_of b) else None }
 {
     let t = ntt::forward(b, forward);
     if has_zero(t) {
-        return Inversion {
-            exists: false,
-            value: [0u16; DEGREE],
-        };
+        return None;
     }
-    let u = ntt::backward(reciprocals(t), backward);
-    Inversion {
-        exists: true,
-        value: u,
-    }
+    Some(ntt::backward(reciprocals(t), backward))
 }
 
-pub fn inverse(b: Element) -> Inversion
-    ensures { (result.exists ≡ decide (is_invertible b)) × (result.value ≡ inverse_of b) }
+pub fn inverse(b: Element) -> Option<Element>
+    ensures { result ≡ if decide (is_invertible b) then Some (inverse_of b) else None }
 {
     let mut w = [0u16; FACTORS];
     let mut v = [0u16; FACTORS];

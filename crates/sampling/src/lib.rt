@@ -1,5 +1,5 @@
 // Polynomials from random bytes: document 01, "Desk key", and for the four bits document 02, No. 1 and 6. `ternary` and `uniform` take bytes
-// of any length.
+// of any length. Two places a byte, and a place a word that is taken, are written by index: no method of the library does either.
 #![tactic(auto)]
 
 ghost use Rattle.std.specs.Prelude.{◌≡◌, map, ◌%◌, length};
@@ -11,6 +11,7 @@ ghost use Rattle.sampling.specs.Stream.{taken, uniform_element};
 
 use modq::Q;
 use ntt::{DEGREE, Element};
+use std::array;
 
 // The bytes that a ternary polynomial is read from: two coefficients a byte.
 pub const NOISE_LENGTH: usize = DEGREE / 2;
@@ -24,23 +25,28 @@ pub const STREAM_LENGTH: usize = 2 * BLOCKS * BLOCK_WORDS;
 
 // ---- noise
 
-// The values of the four bits 0 to 15: t0 - t1 + t2 - t3, t0 the lowest, where 2 becomes - 1 and - 2 becomes 1. The bits are secret, and so
-// is the place that is read: at a multiple of 16 all sixteen bytes lie in one cache line.
-const NOISE_VALUES: [i8; 16] = [0, 1, -1, 0, 1, -1, 0, 1, -1, 0, 1, -1, 0, 1, -1, 0];
-
-// The table, once a polynomial: indexing the constant itself would copy it for each coefficient.
-fn noise_values() -> [i8; 16]
-    ensures { result ≡ table 16 four_bits }
-{
-    NOISE_VALUES
+// The bits of noise are secret, and so is the place in the table that is read: at a multiple of 16 all sixteen bytes lie in one cache line. The
+// array of no u128 takes no room and puts them there.
+struct NoiseTable {
+    at_16: [u128; 0],
+    values: [i8; 16],
 }
 
+const _: () = prove!(align_of::<NoiseTable>() == 16);
+
+const _: () = prove!(size_of::<NoiseTable>() == 16);
+
+// The values of the four bits 0 to 15: t0 - t1 + t2 - t3, t0 the lowest, where 2 becomes - 1 and - 2 becomes 1.
+static NOISE_VALUES: NoiseTable = NoiseTable {
+    at_16: [],
+    values: [0, 1, -1, 0, 1, -1, 0, 1, -1, 0, 1, -1, 0, 1, -1, 0],
+};
+
 // The value of the four lowest bits, as wide as a coefficient: so the loop behind has nothing to unpack.
-fn noise(t: u8, values: &[i8; 16]) -> i16
-    requires { values.now ≡ table 16 four_bits }
+fn noise(t: u8) -> i16
     ensures { result ≡ four_bits (t % 16) }
 {
-    let value = values[(t % 16) as usize];
+    let value = NOISE_VALUES.values[(t % 16) as usize];
     value as i16
 }
 
@@ -48,33 +54,22 @@ fn noise(t: u8, values: &[i8; 16]) -> i16
 fn signed_noise(bytes: &[u8]) -> [i16; DEGREE]
     ensures { result ≡ table n (λ k. four_bits (nibble_at bytes.now k)) }
 {
-    let values = noise_values();
     let mut t = [0i16; DEGREE];
-    let count = octets::lesser(bytes.len(), NOISE_LENGTH);
+    let count = bytes.len().min(NOISE_LENGTH);
     for i in 0..count {
         let b = bytes[i];
-        t[2 * i] = noise(b % 16, &values);
-        t[2 * i + 1] = noise(b / 16, &values);
+        t[2 * i] = noise(b % 16);
+        t[2 * i + 1] = noise(b / 16);
     }
     t
 }
 
-// A value as a coefficient, by the ring's step from integers to residues.
-fn coefficient(value: i16) -> u16
-    ensures { result ≡ residue value }
-{
-    ring::residue(value)
-}
-
-// The coefficients of all values, in a loop of their own: here the compiler works on eight at once, which it cannot where a table is read.
+// The coefficients of all values, by the ring's step from integers to residues, apart from the loop that reads the table: here the compiler
+// works on eight at once, which it cannot where a table is read.
 fn coefficients(values: [i16; DEGREE]) -> Element
     ensures { result ≡ map residue values }
 {
-    let mut t = [0u16; DEGREE];
-    for i in 0..DEGREE {
-        t[i] = coefficient(values[i]);
-    }
-    t
+    array::from_fn(|i| ring::residue(values[i]))
 }
 
 // The ternary polynomial of the first 512 bytes, two coefficients a byte. Missing bytes count as zeros.
@@ -87,7 +82,7 @@ pub fn ternary(bytes: &[u8]) -> Element
 // ---- the uniform element
 
 // How many words of a stream were taken, and the polynomial whose first coefficients they are; the rest are zeros.
-// The stream was exhausted where the count is below 1,024.
+// The stream was exhausted where the count is below 1,024. Both are promised for every stream, so this is no Option.
 #[derive(Clone, Copy)]
 pub struct UniformSample {
     pub count: usize,

@@ -1,4 +1,4 @@
-// SHAKE128 and SHAKE256 of FIPS 202 over one sponge, whose rate in bytes is a parameter.
+// SHAKE128 and SHAKE256 of FIPS 202 over one sponge, whose rate in bytes is a parameter of its type.
 #![tactic(auto)]
 
 ghost use Rattle.std.specs.Prelude.{◌≡◌, ◌++◌, ◌/◌, ◌-◌, ◌<◌, ◌≤◌, length};
@@ -18,95 +18,97 @@ fn zero_filled(t: &[u8]) -> [u8; 200]
     ensures { result ≡ t.now ++ zeros (200 - length t.now) }
 {
     let mut b = [0u8; 200];
-    let n = t.len();
-    for i in 0..n {
-        b[i] = t[i];
-    }
+    b[..t.len()].copy_from_slice(t);
     b
 }
 
-// The last block of a padded message whose last bytes, fewer than a block, are t, and zeros up to 200.
-fn last_block(rate: usize, t: &[u8]) -> [u8; 200]
-    requires { (length t.now < rate) × (rate ≤ 200) }
-    ensures { result ≡ (t.now ++ padding (rate - length t.now)) ++ zeros (200 - rate) }
-{
-    let n = t.len();
-    let mut b = zero_filled(t);
-    if n + 1 == rate {
-        b[n] = 0x9F;
-    } else {
-        b[n] = 0x1F;
-        b[rate - 1] = 0x80;
-    }
-    b
+// A sponge by its rate in bytes.
+#[derive(Clone, Copy)]
+struct Sponge<const RATE: usize> {
+    ghost is_rate: { Rate RATE },
 }
 
-// The lanes of block k of the padded message, and zeros up to 25.
-fn block_words(rate: usize, input: &[u8], k: usize) -> [u64; 25]
-    requires { Rate rate × (k ≤ length input.now / rate) }
-    ensures { result ≡ table 25 (word (block rate k (padded rate input.now))) }
-{
-    let at = rate * k;
-    if input.len() - at >= rate {
-        return string_to_state::words(&input[at..at + rate]);
+impl<const RATE: usize> Sponge<RATE> {
+    // The last block of a padded message whose last bytes, fewer than a block, are t, and zeros up to 200.
+    fn last_block(self, t: &[u8]) -> [u8; 200]
+        requires { length t.now < RATE }
+        ensures { result ≡ (t.now ++ padding (RATE - length t.now)) ++ zeros (200 - RATE) }
+    {
+        let n = t.len();
+        let mut b = zero_filled(t);
+        if n + 1 == RATE {
+            b[n] = 0x9F;
+        } else {
+            b[n] = 0x1F;
+            b[RATE - 1] = 0x80;
+        }
+        b
     }
-    let b = last_block(rate, &input[at..]);
-    string_to_state::words(&b)
-}
 
-// Algorithm 8, steps 1 to 6, for a message that is padded here. The permutation stands in one place: the compiler then copies no state.
-fn absorb(rate: usize, input: &[u8]) -> [[u64; 5]; 5]
-    requires { Rate rate }
-    ensures { result ≡ absorb rate (padded rate input.now) }
-{
-    let n = input.len() / rate + 1;
-    let mut s = [[0u64; 5]; 5];
-    for k in 0..n {
-        let w = block_words(rate, input, k);
-        let t = keccak::keccak_f(string_to_state::xor_words(s, w));
-        s = t;
+    // The lanes of block k of the padded message, and zeros up to 25.
+    fn block_words(self, input: &[u8], k: usize) -> [u64; 25]
+        requires { k ≤ length input.now / RATE }
+        ensures { result ≡ table 25 (word (block RATE k (padded RATE input.now))) }
+    {
+        let at = RATE * k;
+        if input.len() - at >= RATE {
+            return string_to_state::words(&input[at..at + RATE]);
+        }
+        let b = self.last_block(&input[at..]);
+        string_to_state::words(&b)
     }
-    s
-}
 
-// Algorithm 8, steps 7 to 10.
-fn squeeze(rate: usize, s: [[u64; 5]; 5], out: &mut [u8])
-    requires { Rate rate }
-    ensures { out.new ≡ squeeze rate s (length out.old) }
-{
-    if out.len() == 0 {
-        return;
+    // Algorithm 8, steps 1 to 6, for a message that is padded here. The permutation stands in one place: the compiler then copies no state.
+    fn absorb(self, input: &[u8]) -> [[u64; 5]; 5]
+        ensures { result ≡ absorb RATE (padded RATE input.now) }
+    {
+        let n = input.len() / RATE + 1;
+        let mut s = [[0u64; 5]; 5];
+        for k in 0..n {
+            let w = self.block_words(input, k);
+            let t = keccak::keccak_f(string_to_state::xor_words(s, w));
+            s = t;
+        }
+        s
     }
-    let n = (out.len() - 1) / rate;
-    let mut s = s;
-    for k in 0..n {
-        let at = rate * k;
-        let current = s;
-        state_to_string::put_bytes(current, &mut out[at..at + rate]);
-        let next = keccak::keccak_f(current);
-        s = next;
-    }
-    let at = rate * n;
-    state_to_string::put_bytes(s, &mut out[at..]);
-}
 
-// The SHAKE of a rate: fills `out`, of any length, from a message of any length.
-fn shake(rate: usize, input: &[u8], out: &mut [u8])
-    requires { Rate rate }
-    ensures { out.new ≡ shake rate input.now (length out.old) }
-{
-    let s = absorb(rate, input);
-    squeeze(rate, s, out);
+    // Algorithm 8, steps 7 to 10.
+    fn squeeze(self, s: [[u64; 5]; 5], out: &mut [u8])
+        ensures { out.new ≡ squeeze RATE s (length out.old) }
+    {
+        if out.len() == 0 {
+            return;
+        }
+        let n = (out.len() - 1) / RATE;
+        let mut s = s;
+        for k in 0..n {
+            let at = RATE * k;
+            let current = s;
+            state_to_string::put_bytes(current, &mut out[at..at + RATE]);
+            let next = keccak::keccak_f(current);
+            s = next;
+        }
+        let at = RATE * n;
+        state_to_string::put_bytes(s, &mut out[at..]);
+    }
+
+    // The SHAKE of a rate: fills `out`, of any length, from a message of any length.
+    fn shake(self, input: &[u8], out: &mut [u8])
+        ensures { out.new ≡ shake RATE input.now (length out.old) }
+    {
+        let s = self.absorb(input);
+        self.squeeze(s, out);
+    }
 }
 
 pub fn shake128(input: &[u8], out: &mut [u8])
     ensures { out.new ≡ shake128 input.now (length out.old) }
 {
-    shake(SHAKE128_RATE, input, out);
+    Sponge::<SHAKE128_RATE> {}.shake(input, out);
 }
 
 pub fn shake256(input: &[u8], out: &mut [u8])
     ensures { out.new ≡ shake256 input.now (length out.old) }
 {
-    shake(SHAKE256_RATE, input, out);
+    Sponge::<SHAKE256_RATE> {}.shake(input, out);
 }

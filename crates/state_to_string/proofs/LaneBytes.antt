@@ -1,11 +1,11 @@
 -- The bytes of lanes.
-use mathlib.Core.Path.{◌≡◌, sym, ap, ◌∙◌}
-use mathlib.Core.List.{List, [], ◌∷◌, ◌++◌}
-use Prim.Native.Nat.{ℕ, ◌+◌, ◌*◌, ◌-◌, ◌/◌, ◌%◌, ◌^◌, ◌<◌, ◌≤◌}
+use mathlib.Core.Path.{◌≡◌, refl, sym, ap, ◌∙◌}
+use mathlib.Core.List.{List, ◌++◌}
+use Prim.Native.Nat.{ℕ, ◌+◌, ◌*◌, ◌-◌, ◌/◌, ◌%◌, ◌<◌, ◌≤◌}
 use native.Mathlib.Nat.{div-one, le_refl, le_of_eq}
 use native.Mathlib.Omega.{arith}
-use lib.ListN.{length, take, drop, drop_of_length-le}
-use lib.Seq.{sets, sets-eq}
+use lib.ListN.{length, take, drop}
+use Rattle.std.specs.Int.{w64, to_le_bytes}
 use Rattle.lists.specs.Table.{table, table_from}
 use Rattle.lists.proofs.Tables.{length-table, table_same, take-table, part-table}
 use Rattle.lists.proofs.Parts.{length_part}
@@ -13,25 +13,14 @@ use Rattle.lists.proofs.Fill.{Filled, filled-part, filled-all}
 use Rattle.keccak_steps.specs.Steps.{State, lane}
 use Rattle.state_to_string.specs.Bytes.{lane_byte, byte_of, bytes_of}
 
--- the bytes of a lane, written out
-abbrev lane_bytes : ℕ → List ℕ
-lane_bytes v =
-    v % 256
-    ∷ v / 2 ^ 8 % 256
-    ∷ v / 2 ^ 16 % 256
-    ∷ v / 2 ^ 24 % 256
-    ∷ v / 2 ^ 32 % 256
-    ∷ v / 2 ^ 40 % 256
-    ∷ v / 2 ^ 48 % 256
-    ∷ v / 2 ^ 56 % 256
-    ∷ []
-
--- the eight stores of a lane
-pub put_eight : (out : List ℕ) (v : ℕ) → length out ≡ 8 → sets out 0 (lane_bytes v) ≡ table 8 (lane_byte v)
+-- the library's bytes of a lane
+pub lane_bytes_of : (v : ℕ) → to_le_bytes w64 v ≡ table 8 (lane_byte v)
 unfolding table table_from
-put_eight out v h =
-    let room : 0 + 8 ≤ length out = omega arith in
-    sets-eq (lane_bytes v) out 0 room ∙ rw (drop_of_length-le out {i = 8} (omega arith), div-one)
+lane_bytes_of v = rw div-one refl
+
+-- the first n of them
+pub lane_bytes_part : (v n : ℕ) → n ≤ 8 → take n (to_le_bytes w64 v) ≡ table n (lane_byte v)
+lane_bytes_part v n h = ap (take n) (lane_bytes_of v) ∙ take-table n 8 (lane_byte v) h
 
 -- the bytes of lane k stand at 8 k in the state's string
 pub lane_bytes_lem : (s : State) (k n l : ℕ) → n ≤ 8 → 8 * k + n ≤ l → table n (lane_byte (lane s (k % 5) (k / 5))) ≡ take n (drop (8 * k) (table l (byte_of s)))

@@ -10,14 +10,7 @@ fn put_lane(out: &mut [u8], v: u64)
     requires { length out.old ≡ 8 }
     ensures { out.new ≡ table 8 (lane_byte v) }
 {
-    out[0] = (v % 256) as u8;
-    out[1] = ((v >> 8) % 256) as u8;
-    out[2] = ((v >> 16) % 256) as u8;
-    out[3] = ((v >> 24) % 256) as u8;
-    out[4] = ((v >> 32) % 256) as u8;
-    out[5] = ((v >> 40) % 256) as u8;
-    out[6] = ((v >> 48) % 256) as u8;
-    out[7] = ((v >> 56) % 256) as u8;
+    out.copy_from_slice(&v.to_le_bytes());
 }
 
 // Stores the first bytes of a lane, as many as `out` has.
@@ -26,9 +19,7 @@ fn put_lane_part(out: &mut [u8], v: u64)
     ensures { out.new ≡ table (length out.old) (lane_byte v) }
 {
     let n = out.len();
-    for j in 0..n {
-        out[j] = ((v >> (8 * j)) % 256) as u8;
-    }
+    out.copy_from_slice(&v.to_le_bytes()[..n]);
 }
 
 // Stores the first bytes of the state's string, as many as `out` has: whole lanes, then what is left.

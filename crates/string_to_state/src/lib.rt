@@ -7,6 +7,8 @@ ghost use Rattle.lists.specs.Table.{table};
 ghost use Rattle.keccak_steps.specs.Steps.{lane, plane, state};
 ghost use Rattle.string_to_state.specs.Words.{word};
 
+use std::array;
+
 // Lane k of a string of whole lanes, and 0 past its end.
 fn word(b: &[u8], k: usize) -> u64
     requires { (length b.now % 8 ≡ 0) × (k < 25) }
@@ -24,11 +26,7 @@ pub fn words(b: &[u8]) -> [u64; 25]
     requires { length b.now % 8 ≡ 0 }
     ensures { result ≡ table 25 (word b.now) }
 {
-    let mut w = [0u64; 25];
-    for k in 0..25 {
-        w[k] = word(b, k);
-    }
-    w
+    array::from_fn(|k| word(b, k))
 }
 
 // A plane with five lanes of w added, from lane 5 y on.

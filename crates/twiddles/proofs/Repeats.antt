@@ -5,12 +5,12 @@ use Prim.Native.Nat.{ℕ, suc, ◌+◌, ◌-◌, ◌*◌, ◌%◌, ◌^◌, ◌<
 use native.Mathlib.Nat.{zero-add, le_of_eq, mod-lt, mod-eq_of_lt, two-pow-succ, pow-le-pow_right, mul-add-mod_self_left}
 use native.Mathlib.Numerals.{add-one}
 use native.Mathlib.Omega.{arith}
-use lib.ListN.{length, get_or, take, drop, set, length-append, length-drop, get_or-append}
+use lib.ListN.{length, get_or, take, drop, length-append, length-drop, get_or-append}
 use lib.Pow.{pow_pos, pow-add}
-use lib.Seq.{length-take-le, take_at, take-add, take-take, get_or-append-add, get_or-take, get_or-drop}
+use lib.Seq.{length-take-le, take-add, take-take, get_or-take, get_or-drop}
 use Rattle.lists.specs.Table.{table}
 use Rattle.lists.proofs.Tables.{length-table, table_same, take-table, part-table}
-use Rattle.lists.proofs.Fill.{Filled, filled_none, filled_more, filled_at, filled-part, filled-all}
+use Rattle.lists.proofs.Fill.{Filled, filled_none, filled-part, filled-all}
 use Rattle.lists.proofs.ByteLists.{part-get_or}
 use Rattle.twiddles.specs.Factors.{block_of}
 
@@ -25,25 +25,6 @@ module _ (w : List ℕ) (m : ℕ) (size : length w ≡ m + m) where
 
   pub doubled-size : length doubled ≡ m + m
   doubled-size = length-append (take m w) (take m w) ∙ ap₂ (λ (x y : ℕ). x + y) half half
-
-  pub doubled_none : Filled (m + m) doubled w (m + 0)
-  doubled_none =
-      let all : m + 0 ≡ m = omega arith in
-      record {
-        within = omega arith;
-        whole = doubled-size;
-        size = size;
-        same = rw all (sym (take_at (take m w) (take m w) m half));
-      }
-
-  -- an entry of the second half is that of the first
-  twice : (i : ℕ) → i < m → get_or doubled i 0 ≡ get_or doubled (m + i) 0
-  twice i h =
-      get_or-append (take m w) (take m w) 0 i (omega (arith, half))
-      ∙ sym (ap (λ (n : ℕ). get_or doubled (n + i) 0) (sym half) ∙ get_or-append-add (take m w) (take m w) i 0)
-
-  pub doubled_more : {out : List ℕ} (i : ℕ) → i < m → Filled (m + m) doubled out (m + i) → Filled (m + m) doubled (set out (m + i) (get_or out i 0)) (m + i + 1)
-  doubled_more i h f = filled_more 0 f (omega arith) (filled_at 0 i f (omega arith) ∙ twice i h)
 
 -- ---- the row
 

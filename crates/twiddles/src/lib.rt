@@ -11,6 +11,8 @@ ghost use Rattle.modq.specs.Montgomery.{montgomery_form, from_montgomery};
 ghost use Rattle.twiddles.specs.Powers.{q, degree, power, powers_table, power_forms};
 ghost use Rattle.twiddles.specs.Factors.{block_of, forward_factors, backward_factors};
 
+use std::array;
+
 // The degree of the ring.
 pub const DEGREE: usize = 1024;
 
@@ -38,16 +40,12 @@ pub fn scaled(w: u16, a: [u16; DEGREE]) -> [u16; DEGREE]
     requires { w < q }
     ensures { result ≡ scale q degree (from_montgomery w) a }
 {
-    let mut r = [0u16; DEGREE];
-    for i in 0..DEGREE {
-        r[i] = modq::montgomery_product(w, a[i]);
-    }
-    r
+    array::from_fn(|i| modq::montgomery_product(w, a[i]))
 }
 
 // ---- the factors of the layers
 
-// Entry m is m with its ten bits in reverse order. The first factor is ψ^512, since X^1024 + 1 is X^1024 - ψ^1024.
+// Entry m is m with its ten bits in reverse order, from entry m / 2: so a loop, and no `from_fn`. The first factor is ψ^512, since X^1024 + 1 is X^1024 - ψ^1024.
 fn exponents() -> [u16; DEGREE]
     ensures { result ≡ table degree (reversed 10) }
 {
@@ -64,11 +62,7 @@ fn opposites(e: [u16; DEGREE]) -> [u16; DEGREE]
     requires { e ≡ table degree (reversed 10) }
     ensures { result ≡ table degree (λ m. degree - reversed 10 m) }
 {
-    let mut r = [0u16; DEGREE];
-    for m in 0..DEGREE {
-        r[m] = DEGREE_U16 - e[m];
-    }
-    r
+    array::from_fn(|m| DEGREE_U16 - e[m])
 }
 
 // The powers in Montgomery's form: 21894 is the form of 2^16.
@@ -83,12 +77,7 @@ fn block_factors(e: [u16; DEGREE]) -> [u16; DEGREE]
     ensures { result ≡ table degree (λ m. montgomery_form (power (get_or e m 0 % degree))) }
 {
     let t = power_forms();
-    let mut r = [0u16; DEGREE];
-    for m in 0..DEGREE {
-        let at = (e[m] % DEGREE_U16) as usize;
-        r[m] = t[at];
-    }
-    r
+    array::from_fn(|m| t[(e[m] % DEGREE_U16) as usize])
 }
 
 // The factors of the n blocks of a layer, where n is the length of w.
@@ -97,9 +86,7 @@ fn first_factors(w: &mut [u16], f: &[u16])
     ensures { w.new ≡ take (length w.old) (drop (length w.old) f.now) }
 {
     let n = w.len();
-    for i in 0..n {
-        w[i] = f[n + i];
-    }
+    w.copy_from_slice(&f[n..n + n]);
 }
 
 // Copies the first half to the second.
@@ -107,9 +94,8 @@ fn double(w: &mut [u16], m: usize)
     requires { length w.old ≡ m + m }
     ensures { w.new ≡ take m w.old ++ take m w.old }
 {
-    for i in 0..m {
-        w[m + i] = w[i];
-    }
+    let (first, second) = w.split_at_mut(m);
+    second.copy_from_slice(first);
 }
 
 // Repeats the first 2^k entries up to 512, by doubling what stands already.

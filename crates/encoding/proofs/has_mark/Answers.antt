@@ -1,6 +1,7 @@
-use Rattle.encoding.specs.Header.{has_mark}
+use mathlib.Core.Path.{◌∙◌}
+use Rattle.encoding.proofs.Headers.{starts}
+use borrow.Author.Rules.{rules}
 use Rattle.encoding.proofs.has_mark.Goals as goal
 
 pub returns : goal.returns
-unfolding has_mark
-returns c = rw (c.byte_at-3.ensures, c.byte_at-2.ensures, c.byte_at.ensures)
+returns c = c.starts_with.ensures.value ∙ starts c.args.mark c.args.bytes.now (search rules)

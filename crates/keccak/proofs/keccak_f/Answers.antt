@@ -9,9 +9,6 @@ use Rattle.keccak.proofs.keccak_f.Goals as goal
 pub loop-i-init : goal.loop-i-init
 loop-i-init c = (search rules, refl)
 
-pub two_rounds-t-requires : goal.two_rounds-t-requires
-two_rounds-t-requires c = (search rules, c.round_constants-constants.ensures)
-
 pub loop-i-preserved : goal.loop-i-preserved
 loop-i-preserved c = (search rules, two_more _ _ c.loop-i.invariant.1 c.two_rounds-t.ensures)
 

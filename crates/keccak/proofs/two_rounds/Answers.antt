@@ -10,7 +10,7 @@ pub loop-j-init : goal.loop-j-init
 loop-j-init c = (search rules, refl)
 
 pub round-t-requires : goal.round-t-requires
-round-t-requires c = (omega (arith, c.requires.0, c.loop-j-test.true), c.requires.1)
+round-t-requires c = omega (arith, c.requires, c.loop-j-test.true)
 
 pub loop-j-preserved : goal.loop-j-preserved
 loop-j-preserved c = (search rules, rw add-one (c.round-t.ensures ∙ ap (complemented_round _) c.loop-j.invariant.1))

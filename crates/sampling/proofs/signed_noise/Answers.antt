@@ -14,8 +14,8 @@ use Rattle.sampling.proofs.signed_noise.Goals as goal
 pub loop-i-init : goal.loop-i-init
 loop-i-init c =
     let bytes = c.args.bytes.now in
-    front-filled-start (λ k. four_bits (nibble_at bytes k)) (omega (arith, c.lesser-count.ensures)) (pos 0) refl
-    (λ k l h. ap four_bits (digit_missing 16 2 bytes k (omega (arith, c.lesser-count.ensures))) ∙ four_bits_none)
+    front-filled-start (λ k. four_bits (nibble_at bytes k)) (omega (arith, c.min-count.ensures)) (pos 0) refl
+    (λ k l h. ap four_bits (digit_missing 16 2 bytes k (omega (arith, c.min-count.ensures))) ∙ four_bits_none)
 
 pub loop-i-preserved : goal.loop-i-preserved
 loop-i-preserved c =
@@ -34,4 +34,4 @@ loop-i-preserved c =
 pub returns : goal.returns
 returns c =
     let bytes = c.args.bytes.now in
-    front-filled-all (λ k. four_bits (nibble_at bytes k)) (omega (arith, c.lesser-count.ensures)) c.loop-i.invariant (omega arith)
+    front-filled-all (λ k. four_bits (nibble_at bytes k)) (omega (arith, c.min-count.ensures)) c.loop-i.invariant (omega arith)

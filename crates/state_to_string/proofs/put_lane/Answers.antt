@@ -1,28 +1,6 @@
-use native.Mathlib.Omega.{arith}
-use lib.ListN.{length-set}
-use Rattle.state_to_string.proofs.LaneBytes.{put_eight}
+use mathlib.Core.Path.{◌∙◌}
+use Rattle.state_to_string.proofs.LaneBytes.{lane_bytes_of}
 use Rattle.state_to_string.proofs.put_lane.Goals as goal
 
-pub bounds-out-1 : goal.bounds-out-1
-bounds-out-1 c = simp length-set (omega arith)
-
-pub bounds-out-2 : goal.bounds-out-2
-bounds-out-2 c = simp length-set (omega arith)
-
-pub bounds-out-3 : goal.bounds-out-3
-bounds-out-3 c = simp length-set (omega arith)
-
-pub bounds-out-4 : goal.bounds-out-4
-bounds-out-4 c = simp length-set (omega arith)
-
-pub bounds-out-5 : goal.bounds-out-5
-bounds-out-5 c = simp length-set (omega arith)
-
-pub bounds-out-6 : goal.bounds-out-6
-bounds-out-6 c = simp length-set (omega arith)
-
-pub bounds-out-7 : goal.bounds-out-7
-bounds-out-7 c = simp length-set (omega arith)
-
 pub returns : goal.returns
-returns c = put_eight c.args.out.now c.args.v c.requires
+returns c = c.copy_from_slice.ensures.after ∙ c.to_le_bytes.ensures ∙ lane_bytes_of c.args.v

@@ -2,10 +2,10 @@ use mathlib.Core.Path.{◌≡◌}
 use Prim.Native.Nat.{◌≤◌, ◌-◌}
 use Rattle.shake.specs.Sponge.{absorbed}
 use Rattle.shake.specs.Shake.{padded}
-use Rattle.shake.proofs.absorb.Given as goal
+use Rattle.shake.proofs.Sponge.absorb.Given as goal
 
 abbrev pub invariant-loop-k : goal.invariant-loop-k
-invariant-loop-k l = (l.k ≤ l.n) × (l.s ≡ absorbed l.rate l.k (padded l.rate l.input))
+invariant-loop-k g l = (l.k ≤ l.n) × (l.s ≡ absorbed g.row.RATE l.k (padded g.row.RATE l.input))
 
 abbrev pub decreases-loop-k : goal.decreases-loop-k
-decreases-loop-k l = l.n - l.k
+decreases-loop-k g l = l.n - l.k
