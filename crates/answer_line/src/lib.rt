@@ -1,64 +1,51 @@
-// The line of an answer: its number and, under Done, an entry in hexadecimal.
+// The line of what was opened: a number and, where that is 0, an entry in hexadecimal.
 #![tactic(auto)]
 
-ghost use Rattle.std.specs.Prelude.{◌≡◌, [], ◌∷◌, ◌≤◌, min, length};
-ghost use Rattle.lists.specs.Table.{zeros};
+ghost use Rattle.std.specs.Prelude.{◌≡◌, [], ◌∷◌, take};
 ghost use Rattle.hexadecimal.specs.Hex.{text_of};
-ghost use Rattle.text.specs.Text.{written};
-ghost use Rattle.answers.specs.Answers.{number};
-ghost use Rattle.answer_line.specs.Line.{shown, line_of};
+ghost use Rattle.answer_line.specs.Line.{line_of, opened_line};
 
-use answers::Answer;
+use answers::Refusal;
 use octets::BLOCK_LENGTH;
+use text::Text;
 
 // The longest line: a digit, a space, the digits of an entry and a line feed.
-const LINE_LENGTH: usize = 3 + 2 * BLOCK_LENGTH;
-
-// A text of at most 35 bytes: it stands at the front of `bytes`, with zeros behind it.
-#[derive(Clone, Copy)]
-pub struct Text {
-    pub bytes: [u8; LINE_LENGTH],
-    pub length: usize,
-}
+pub const LINE_LENGTH: usize = 3 + 2 * BLOCK_LENGTH;
 
 // A number, a space, what is shown and a line feed, as far as there is room.
-fn line_of(n: u32, shown: &[u8]) -> Text
-    ensures bytes_value { result.bytes ≡ written (line_of n shown.now) (zeros 35) }
-    ensures length_value { result.length ≡ min (length (line_of n shown.now)) 35 }
+fn line_of(n: u32, shown: &[u8]) -> Text<LINE_LENGTH>
+    ensures { result ≡ take 35 (line_of n shown.now) }
 {
-    let mut bytes = [0u8; LINE_LENGTH];
-    let digits = text::put_decimal(&mut bytes, 0, n as u64);
-    let space = text::put(&mut bytes, digits, b" ");
-    let end = text::put(&mut bytes, space, shown);
-    let length = text::put(&mut bytes, end, b"\n");
-    Text { bytes, length }
+    let mut line = Text::new();
+    line.push_decimal(n as u64);
+    line.push(b" ");
+    line.push(shown);
+    line.push(b"\n");
+    line
 }
 
-// The line under Done.
-fn entry_line(entry: [u8; BLOCK_LENGTH]) -> Text
-    ensures bytes_value { result.bytes ≡ written (line_of 0 (text_of entry)) (zeros 35) }
-    ensures length_value { (result.length ≡ length (line_of 0 (text_of entry))) × (result.length ≤ 35) }
+// The line of an entry.
+fn entry_line(entry: [u8; BLOCK_LENGTH]) -> Text<LINE_LENGTH>
+    ensures { result ≡ line_of 0 (text_of entry) }
 {
-    let mut digits = [0u8; 32];
+    let mut digits = [0u8; 2 * BLOCK_LENGTH];
     hexadecimal::encode(&entry, &mut digits);
     line_of(0, &digits)
 }
 
 // The line of the refusal with number n.
-pub fn refusal_line(n: u32) -> Text
-    ensures bytes_value { result.bytes ≡ written (line_of n (45 ∷ [])) (zeros 35) }
-    ensures length_value { (result.length ≡ length (line_of n (45 ∷ []))) × (result.length ≤ 35) }
+pub fn refusal_line(n: u32) -> Text<LINE_LENGTH>
+    ensures { result ≡ line_of n (45 ∷ []) }
 {
     line_of(n, b"-")
 }
 
-// The line of an answer, which shows the entry only under Done.
-pub fn line(answer: Answer, entry: [u8; BLOCK_LENGTH]) -> Text
-    ensures bytes_value { result.bytes ≡ written (line_of (number answer) (shown answer entry)) (zeros 35) }
-    ensures length_value { (result.length ≡ length (line_of (number answer) (shown answer entry))) × (result.length ≤ 35) }
+// The line of what was opened, an entry or a refusal.
+pub fn line(opened: Result<[u8; BLOCK_LENGTH], Refusal>) -> Text<LINE_LENGTH>
+    ensures { result ≡ opened_line opened }
 {
-    if let Answer::Done = answer {
-        return entry_line(entry);
+    match opened {
+        Ok(entry) => entry_line(entry),
+        Err(refusal) => refusal_line(refusal.into()),
     }
-    refusal_line(answers::number(answer))
 }

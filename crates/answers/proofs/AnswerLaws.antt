@@ -7,11 +7,10 @@ use native.Mathlib.Omega.{arith}
 use Rattle.answers.specs.declared.Refusal.{Refusal}
 use Rattle.answers.specs.declared.Refusal.TheVariants.{WrongLength, WrongMark, WrongVersion, KeyOutOfRange, InvalidCode}
 use Rattle.answers.specs.declared.Refusal.TheVariants.{NotInvertible, KeyMismatch, StreamExhausted, DecapsulationFailure, TagMismatch, EncapsulationOutOfRange, WrongCount, InverseMismatch}
-use Rattle.answers.specs.declared.Answer.{Answer}
-use Rattle.answers.specs.declared.Answer.TheVariants.{Done, Refused}
 use Rattle.answers.specs.declared.Location.{Location}
-use Rattle.answers.specs.Answers.{refusal_number, number, unless, and_then, on_done}
+use Rattle.answers.specs.Answers.{refusal_number, number, unless, and_then, on_done, given_or, Answer, Done}
 use Rattle.answers.specs.Locations.{Names}
+use Rattle.std.specs.Prelude.{Result, Ok, Err}
 
 -- ---- 0 is Done
 
@@ -33,15 +32,15 @@ refusal-positive InverseMismatch = omega arith
 refusal-not-zero : (r : Refusal) → ¬ (refusal_number r ≡ 0)
 refusal-not-zero r e = omega (arith, refusal-positive r, e)
 
-pub not_done : {r : Refusal} → ¬ (Refused r ≡ Done)
+pub not_done : {r : Refusal} → ¬ (Err r ≡ Done)
 not_done {r} e = refusal-not-zero r (ap number e)
 
 pub number-done : (a : Answer) → (number a ≡ 0) ↔ (a ≡ Done)
 number-done a = (zero a, λ e. ap number e)
   where
     zero : (a : Answer) → number a ≡ 0 → a ≡ Done
-    zero Done e = refl
-    zero (Refused r) e = absurd (refusal-not-zero r e)
+    zero (Ok _) e = refl
+    zero (Err r) e = absurd (refusal-not-zero r e)
 
 -- ---- a chain of checks says Done exactly when each check does
 
@@ -50,31 +49,31 @@ unless-done true r a = (λ e. (refl, e), λ (p, e). e)
 unless-done false r a = (λ e. absurd (not_done e), λ (p, e). absurd (false≢true p))
 
 pub then-done : (a b : Answer) → (and_then a b ≡ Done) ↔ ((a ≡ Done) × (b ≡ Done))
-then-done Done b = (λ e. (refl, e), λ (p, e). e)
-then-done (Refused r) b = (λ e. absurd (not_done e), λ (p, e). absurd (not_done p))
+then-done (Ok _) b = (λ e. (refl, e), λ (p, e). e)
+then-done (Err r) b = (λ e. absurd (not_done e), λ (p, e). absurd (not_done p))
 
 -- ---- one check: it passes, or it refuses
 
 pub unless_passed : {t : Bool} (r : Refusal) (a : Answer) → t ≡ true → unless t r a ≡ a
 unless_passed r a e = rw e
 
-pub unless-failed : {t : Bool} (r : Refusal) (a : Answer) → t ≡ false → unless t r a ≡ Refused r
+pub unless-failed : {t : Bool} (r : Refusal) (a : Answer) → t ≡ false → unless t r a ≡ Err r
 unless-failed r a e = rw e
 
-pub then_passed : {a : Answer} (b : Answer) → a ≡ Done → and_then a b ≡ b
+pub then_passed : {A : Type 0} {a : Answer} (b : Result A Refusal) → a ≡ Done → and_then a b ≡ b
 then_passed b e = rw e
 
 -- a test on its own, before what follows
-pub unless-then : (t : Bool) (r : Refusal) (a : Answer) → and_then (unless t r Done) a ≡ unless t r a
+pub unless-then : {A : Type 0} (t : Bool) (r : Refusal) (a : Result A Refusal) → and_then (unless t r Done) a ≡ unless t r a
 unless-then true r a = refl
 unless-then false r a = refl
 
 -- where nothing follows
 pub then_nothing : (a : Answer) → and_then a Done ≡ a
-then_nothing Done = refl
-then_nothing (Refused r) = refl
+then_nothing (Ok _) = refl
+then_nothing (Err r) = refl
 
-pub then-failed : {a : Answer} {r : Refusal} (b : Answer) → a ≡ Refused r → and_then a b ≡ Refused r
+pub then-failed : {A : Type 0} {a : Answer} {r : Refusal} (b : Result A Refusal) → a ≡ Err r → and_then a b ≡ Err r
 then-failed b e = rw e
 
 -- ---- a chain of checks says a number of its own
@@ -91,8 +90,8 @@ unless_never true r other rest = rest
 unless_never false r other rest = record { never = other }
 
 pub then_never : {n : ℕ} {a b : Answer} → Never n a → Never n b → Never n (and_then a b)
-then_never {a = Done} first rest = rest
-then_never {a = Refused r} first rest = first
+then_never {a = Ok _} first rest = rest
+then_never {a = Err r} first rest = first
 
 -- the number of a check that follows, and not of this one
 pub unless-says : (n : ℕ) (t : Bool) (r : Refusal) (a : Answer) → ¬ (refusal_number r ≡ n)
@@ -101,8 +100,8 @@ unless-says n true r a other = (λ e. (refl, e), λ (p, e). e)
 unless-says n false r a other = (λ e. absurd (other e), λ (p, e). absurd (false≢true p))
 
 pub then-says : {n : ℕ} {a : Answer} (b : Answer) → Never n a → (number (and_then a b) ≡ n) ↔ ((a ≡ Done) × (number b ≡ n))
-then-says {a = Done} b first = (λ e. (refl, e), λ (p, e). e)
-then-says {a = Refused r} b first = (λ e. absurd (first.never e), λ (p, e). absurd (not_done p))
+then-says {a = Ok _} b first = (λ e. (refl, e), λ (p, e). e)
+then-says {a = Err r} b first = (λ e. absurd (first.never e), λ (p, e). absurd (not_done p))
 
 -- the number of this check, and not of those that follow
 pub unless-refuses : (t : Bool) (r : Refusal) → (number (unless t r Done) ≡ refusal_number r) ↔ (t ≡ false)
@@ -132,13 +131,13 @@ fails_or {t = true} r a f g = (λ e. inr (g.0 (f.0 refl, e)), ⊎_elim (λ none.
 fails_or {t = false} r a f g = (λ e. inl (λ h. false≢true (f.1 h)), λ e. refl)
 
 pub then-refuses : {n : ℕ} (a : Answer) {b : Answer} → 0 < n → Never n b → (number (and_then a b) ≡ n) ↔ (number a ≡ n)
-then-refuses Done some rest = (λ e. absurd (rest.never e), λ e. absurd (omega arith))
-then-refuses (Refused r) some rest = (λ e. e, λ e. e)
+then-refuses (Ok _) some rest = (λ e. absurd (rest.never e), λ e. absurd (omega arith))
+then-refuses (Err r) some rest = (λ e. e, λ e. e)
 
 -- this check, or where it passes the one that follows
 pub says_either : {n : ℕ} (a b : Answer) → 0 < n → (number (and_then a b) ≡ n) ↔ ((number a ≡ n) ⊎ ((a ≡ Done) × (number b ≡ n)))
-says_either Done b some = (λ e. inr (refl, e), ⊎_elim (λ e. absurd (omega arith)) (λ (p, e). e))
-says_either (Refused r) b some = (λ e. inl e, ⊎_elim (λ e. e) (λ (p, e). absurd (not_done p)))
+says_either (Ok _) b some = (λ e. inr (refl, e), ⊎_elim (λ e. absurd (omega arith)) (λ (p, e). e))
+says_either (Err r) b some = (λ e. inl e, ⊎_elim (λ e. e) (λ (p, e). absurd (not_done p)))
 
 -- ---- a chain of checks says a number and names a word
 
@@ -148,18 +147,18 @@ unless_names n l true r a other = (λ e. (refl, e), λ (p, e). e)
 unless_names n l false r a other = (λ e. absurd (other e.0), λ (p, e). absurd (false≢true p))
 
 pub then_names : {n : ℕ} {l : Location} {a : Answer} (b : Answer) → Never n a → Names n l (and_then a b) ↔ ((a ≡ Done) × Names n l b)
-then_names {a = Done} b first = (λ e. (refl, e), λ (p, e). e)
-then_names {a = Refused r} b first = (λ e. absurd (first.never e.0), λ (p, e). absurd (not_done p))
+then_names {a = Ok _} b first = (λ e. (refl, e), λ (p, e). e)
+then_names {a = Err r} b first = (λ e. absurd (first.never e.0), λ (p, e). absurd (not_done p))
 
 -- this check, and none of those that follow
 pub names-first : {n : ℕ} {l : Location} (a : Answer) {b : Answer} → 0 < n → Never n b → Names n l (and_then a b) ↔ Names n l a
-names-first Done some rest = (λ e. absurd (rest.never e.0), λ (e, p). absurd (omega arith))
-names-first (Refused r) some rest = (λ e. e, λ e. e)
+names-first (Ok _) some rest = (λ e. absurd (rest.never e.0), λ (e, p). absurd (omega arith))
+names-first (Err r) some rest = (λ e. e, λ e. e)
 
 -- this check, or where it passes the one that follows
 pub names_either : {n : ℕ} {l : Location} (a b : Answer) → 0 < n → Names n l (and_then a b) ↔ (Names n l a ⊎ ((a ≡ Done) × Names n l b))
-names_either Done b some = (λ e. inr (refl, e), ⊎_elim (λ (e, p). absurd (omega arith)) (λ (p, e). e))
-names_either (Refused r) b some = (λ e. inl e, ⊎_elim (λ e. e) (λ (p, e). absurd (not_done p)))
+names_either (Ok _) b some = (λ e. inr (refl, e), ⊎_elim (λ (e, p). absurd (omega arith)) (λ (p, e). e))
+names_either (Err r) b some = (λ e. inl e, ⊎_elim (λ e. e) (λ (p, e). absurd (not_done p)))
 
 -- ---- outputs
 
@@ -168,10 +167,35 @@ on_done_lem new old e = rw e
 
 -- a value beside an answer, written by the same answer
 pub on-done_once : {A : Type 0} (a : Answer) (new none old : A) → on_done a (on_done a new none) old ≡ on_done a new old
-on-done_once Done new none old = refl
-on-done_once (Refused r) new none old = refl
+on-done_once (Ok _) new none old = refl
+on-done_once (Err r) new none old = refl
 
 -- under any other number nothing has changed
 pub on_refusal : {A : Type 0} (a : Answer) (new old : A) → ¬ (number a ≡ 0) → on_done a new old ≡ old
-on_refusal Done new old other = absurd (other refl)
-on_refusal (Refused r) new old other = refl
+on_refusal (Ok _) new old other = absurd (other refl)
+on_refusal (Err r) new old other = refl
+
+-- ---- a call that gives a value where its checks are done
+
+abbrev answer_of : {A : Type 0} → Result A Refusal → Answer
+answer_of (Ok x) = Done
+answer_of (Err r) = Err r
+
+-- it gave the value, so they are
+pub given-done : {A : Type 0} {a : Answer} {x y : A} → Ok x ≡ and_then a (Ok y) → (a ≡ Done) × (x ≡ y)
+given-done {a = Ok _} {x} {y} e = (refl, ap (given_or x) e)
+given-done {a = Err r} e = absurd (refusal-not-zero r (sym (ap number e)))
+
+-- it refused, so one of them does
+pub given-refused : {A : Type 0} {a : Answer} {r : Refusal} (y : A) → Err r ≡ and_then a (Ok y) → a ≡ Err r
+given-refused {a = Ok _} {r} y e = absurd (refusal-not-zero r (ap number e))
+given-refused {a = Err r'} {r} y e = sym (ap answer_of e)
+
+-- what stands in its place is said by the answer
+pub given_by : {A : Type 0} (a : Answer) (x none : A) → given_or none (and_then a (Ok x)) ≡ on_done a x none
+given_by (Ok _) x none = refl
+given_by (Err r) x none = refl
+
+pub number_by : {A : Type 0} (a : Answer) (x : A) → number (and_then a (Ok x)) ≡ number a
+number_by (Ok _) x = refl
+number_by (Err r) x = refl

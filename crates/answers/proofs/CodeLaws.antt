@@ -14,13 +14,12 @@ use Rattle.answers.specs.declared.EncapsulationRecord.TheVariants.{SealedEntry, 
 use Rattle.answers.specs.declared.Refusal.{Refusal}
 use Rattle.answers.specs.declared.Refusal.TheVariants.{WrongLength, WrongMark, WrongVersion, KeyOutOfRange, InvalidCode}
 use Rattle.answers.specs.declared.Refusal.TheVariants.{NotInvertible, KeyMismatch, StreamExhausted, DecapsulationFailure, TagMismatch, EncapsulationOutOfRange, WrongCount, InverseMismatch}
-use Rattle.answers.specs.declared.Answer.{Answer}
-use Rattle.answers.specs.declared.Answer.TheVariants.{Done, Refused}
 use Rattle.answers.specs.declared.Location.{Location}
-use Rattle.answers.specs.Answers.{refusal_number, number}
+use Rattle.answers.specs.Answers.{refusal_number, number, Answer, Done}
 use Rattle.answers.specs.Locations.{at, nowhere, in_key_part, in_key, in_encapsulation_part, in_encapsulation, refusal_location, location}
 use Rattle.answers.specs.Locations.{pack, code, code_number, code_location}
 use Rattle.answers.proofs.AnswerLaws.{number-done, Never}
+use Rattle.std.specs.Prelude.{Ok, Err}
 
 -- ---- a field's value fits its bits
 
@@ -70,8 +69,8 @@ refusal-fits WrongCount = (omega arith, nowhere-fits)
 refusal-fits InverseMismatch = (omega arith, nowhere-fits)
 
 pub answer-fits : (a : Answer) → (number a < 256) × Fits (location a)
-answer-fits Done = (omega arith, nowhere-fits)
-answer-fits (Refused r) = refusal-fits r
+answer-fits (Ok _) = (omega arith, nowhere-fits)
+answer-fits (Err r) = refusal-fits r
 
 -- .. where both were worked out
 pub both-fit : {n : ℕ} {l : Location} (a : Answer) → n ≡ number a → l ≡ location a → (n < 256) × Fits l
@@ -119,8 +118,8 @@ code-done a = (λ e. (number-done a).0 (omega (arith, e)), λ e. ap code e)
 
 -- those with the numbers 4 and 11
 pub names_none : (a : Answer) → ¬ (number a ≡ 4) → ¬ (number a ≡ 11) → location a ≡ nowhere
-names_none Done no_key no-encapsulation = refl
-names_none (Refused r) no_key no-encapsulation = of r no_key no-encapsulation
+names_none (Ok _) no_key no-encapsulation = refl
+names_none (Err r) no_key no-encapsulation = of r no_key no-encapsulation
   where
     of : (r : Refusal) → ¬ (refusal_number r ≡ 4) → ¬ (refusal_number r ≡ 11) → refusal_location r ≡ nowhere
     of WrongLength no_key no-encapsulation = refl

@@ -1,10 +1,15 @@
 -- What a call answers, and its number: document 01's, and document 02's (No. 3 to 5).
-use Rattle.std.specs.Prelude.{Bool, true, false, ℕ}
+use Rattle.std.specs.Prelude.{Bool, true, false, ℕ, Result, Ok, Err}
 use Rattle.answers.specs.declared.Refusal.{Refusal}
 use Rattle.answers.specs.declared.Refusal.TheVariants.{WrongLength, WrongMark, WrongVersion, KeyOutOfRange, InvalidCode, NotInvertible, KeyMismatch}
 use Rattle.answers.specs.declared.Refusal.TheVariants.{StreamExhausted, DecapsulationFailure, TagMismatch, EncapsulationOutOfRange, WrongCount, InverseMismatch}
-use Rattle.answers.specs.declared.Answer.{Answer}
-use Rattle.answers.specs.declared.Answer.TheVariants.{Done, Refused}
+
+-- what a call answers: it is done, or refused
+abbrev pub Answer : Type 0
+Answer = Result (Unit {0}) Refusal
+
+abbrev pub Done : Answer
+Done = Ok tt
 
 -- document 01's words beside the numbers
 abbrev pub refusal_number : Refusal → ℕ
@@ -35,21 +40,27 @@ refusal_number WrongCount = 12
 -- a stored inverse that is not that of b (document 02, No. 5)
 refusal_number InverseMismatch = 13
 
-abbrev pub number : Answer → ℕ
-number Done = 0
-number (Refused r) = refusal_number r
+-- also of a call that gives a value where it is done
+abbrev pub number : {A : Type 0} → Result A Refusal → ℕ
+number (Ok x) = 0
+number (Err r) = refusal_number r
 
 -- a refusal where the test fails, and otherwise what follows
-abbrev pub unless : Bool → Refusal → Answer → Answer
+abbrev pub unless : {A : Type 0} → Bool → Refusal → Result A Refusal → Result A Refusal
 unless true r a = a
-unless false r a = Refused r
+unless false r a = Err r
 
 -- a refusal stands, and after Done comes what follows
-abbrev pub and_then : Answer → Answer → Answer
-and_then Done a = a
-and_then (Refused r) a = Refused r
+abbrev pub and_then : {A : Type 0} → Answer → Result A Refusal → Result A Refusal
+and_then (Ok u) a = a
+and_then (Err r) a = Err r
 
 -- what a lent output holds afterwards, bytes or a number: what is new under Done, and otherwise what it held
 abbrev pub on_done : {A : Type 0} (answer : Answer) (new old : A) → A
-on_done Done new old = new
-on_done (Refused r) new old = old
+on_done (Ok u) new old = new
+on_done (Err r) new old = old
+
+-- what a call gives, and what stands in its place beside a refusal
+abbrev pub given_or : {A : Type 0} (none : A) → Result A Refusal → A
+given_or none (Ok x) = x
+given_or none (Err r) = none

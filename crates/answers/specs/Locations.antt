@@ -1,5 +1,5 @@
 -- Where the first word of q or more stands (document 02, No. 3), and the code that an export answers: number and location in one.
-use Rattle.std.specs.Prelude.{◌≡◌, ℕ, ◌+◌, ◌*◌, ◌/◌, ◌%◌}
+use Rattle.std.specs.Prelude.{◌≡◌, ℕ, ◌+◌, ◌*◌, ◌/◌, ◌%◌, Result, Ok, Err}
 use Rattle.answers.specs.declared.KeyPart.{KeyPart}
 use Rattle.answers.specs.declared.KeyPart.TheVariants.{A, B, StoredInverse}
 use Rattle.answers.specs.declared.KeyRecord.{KeyRecord}
@@ -11,10 +11,8 @@ use Rattle.answers.specs.declared.EncapsulationRecord.TheVariants.{SealedEntry, 
 use Rattle.answers.specs.declared.Refusal.{Refusal}
 use Rattle.answers.specs.declared.Refusal.TheVariants.{WrongLength, WrongMark, WrongVersion, KeyOutOfRange, InvalidCode, NotInvertible, KeyMismatch}
 use Rattle.answers.specs.declared.Refusal.TheVariants.{StreamExhausted, DecapsulationFailure, TagMismatch, EncapsulationOutOfRange, WrongCount, InverseMismatch}
-use Rattle.answers.specs.declared.Answer.{Answer}
-use Rattle.answers.specs.declared.Answer.TheVariants.{Done, Refused}
 use Rattle.answers.specs.declared.Location.{Location}
-use Rattle.answers.specs.Answers.{number}
+use Rattle.answers.specs.Answers.{number, Answer}
 
 -- ---- codes of records and of parts, as include/polka.h has them
 
@@ -92,9 +90,9 @@ refusal_location TagMismatch = nowhere
 refusal_location WrongCount = nowhere
 refusal_location InverseMismatch = nowhere
 
-abbrev pub location : Answer → Location
-location Done = nowhere
-location (Refused r) = refusal_location r
+abbrev pub location : {A : Type 0} → Result A Refusal → Location
+location (Ok x) = nowhere
+location (Err r) = refusal_location r
 
 -- the answer says the number n and names the location l
 abbrev pub Names : (n : ℕ) (l : Location) → Answer → Type 0
@@ -107,7 +105,7 @@ Names n l a = (number a ≡ n) × (location a ≡ l)
 abbrev pub pack : (number : ℕ) (l : Location) → ℕ
 pack n l = n + 256 * l.part + 4096 * l.kind + 65536 * (l.index % 4096)
 
-abbrev pub code : Answer → ℕ
+abbrev pub code : {A : Type 0} → Result A Refusal → ℕ
 code a = pack (number a) (location a)
 
 -- what stands in these bits

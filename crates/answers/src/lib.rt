@@ -1,16 +1,14 @@
-// What a call answers: its number, the place of a word that is out of range, both as one code, and how answers are joined, in the order of
-// the checks.
+// What a call answers: its number, the place of a word that is out of range, both as one code, and the answer of a check.
 #![tactic(auto)]
 
 ghost use Rattle.std.specs.Prelude.{◌≡◌};
-ghost use Rattle.answers.specs.declared.Answer.TheVariants.{Done};
-ghost use Rattle.answers.specs.Answers.{refusal_number, number, unless, and_then, on_done};
+ghost use Rattle.answers.specs.Answers.{refusal_number, number, unless, Done};
 ghost use Rattle.answers.specs.Locations.{in_key_part, in_key, in_encapsulation_part, in_encapsulation, refusal_location, location, code};
 
 // ---- answers
 
 // The part of a key that has a word of q or more, and the index of its first; an expanded secret key has the inverse of b.
-#[derive(Clone, Copy)]
+#[derive(Clone, Copy, Debug, PartialEq, Eq)]
 pub enum KeyPart {
     A(usize),
     B(usize),
@@ -18,7 +16,7 @@ pub enum KeyPart {
 }
 
 // The key that has it.
-#[derive(Clone, Copy)]
+#[derive(Clone, Copy, Debug, PartialEq, Eq)]
 pub enum KeyRecord {
     PublicKey(KeyPart),
     SeededPublicKey(KeyPart),
@@ -26,21 +24,21 @@ pub enum KeyRecord {
 }
 
 // The part of an encapsulation, bare or sealed with an entry, that has a word of q or more, and the index of its first.
-#[derive(Clone, Copy)]
+#[derive(Clone, Copy, Debug, PartialEq, Eq)]
 pub enum EncapsulationPart {
     C1(usize),
     C2(usize),
 }
 
 // The record that holds it.
-#[derive(Clone, Copy)]
+#[derive(Clone, Copy, Debug, PartialEq, Eq)]
 pub enum EncapsulationRecord {
     SealedEntry(EncapsulationPart),
     Encapsulation(EncapsulationPart),
 }
 
 // Why a call refuses: document 01's numbers 1 to 10, and document 02's 11 to 13.
-#[derive(Clone, Copy)]
+#[derive(Clone, Copy, Debug, PartialEq, Eq)]
 pub enum Refusal {
     WrongLength,
     WrongMark,
@@ -57,32 +55,30 @@ pub enum Refusal {
     InverseMismatch,
 }
 
-// What a call answers.
-#[derive(Clone, Copy)]
-pub enum Answer {
-    Done,
-    Refused(Refusal),
-}
+// What a call answers that gives no value: it is done, or refused.
+pub type Answer = Result<(), Refusal>;
 
 // ---- the number
 
-fn refusal_number(r: Refusal) -> u32
-    ensures { result ≡ refusal_number r }
-{
-    match r {
-        Refusal::WrongLength => 1,
-        Refusal::WrongMark => 2,
-        Refusal::WrongVersion => 3,
-        Refusal::KeyOutOfRange(_) => 4,
-        Refusal::InvalidCode => 5,
-        Refusal::NotInvertible => 6,
-        Refusal::KeyMismatch => 7,
-        Refusal::StreamExhausted => 8,
-        Refusal::DecapsulationFailure => 9,
-        Refusal::TagMismatch => 10,
-        Refusal::EncapsulationOutOfRange(_) => 11,
-        Refusal::WrongCount => 12,
-        Refusal::InverseMismatch => 13,
+impl From<Refusal> for u32 {
+    ghost from_gives = { λ r n. n ≡ refusal_number r };
+
+    fn from(r: Refusal) -> u32 {
+        match r {
+            Refusal::WrongLength => 1,
+            Refusal::WrongMark => 2,
+            Refusal::WrongVersion => 3,
+            Refusal::KeyOutOfRange(_) => 4,
+            Refusal::InvalidCode => 5,
+            Refusal::NotInvertible => 6,
+            Refusal::KeyMismatch => 7,
+            Refusal::StreamExhausted => 8,
+            Refusal::DecapsulationFailure => 9,
+            Refusal::TagMismatch => 10,
+            Refusal::EncapsulationOutOfRange(_) => 11,
+            Refusal::WrongCount => 12,
+            Refusal::InverseMismatch => 13,
+        }
     }
 }
 
@@ -91,14 +87,15 @@ pub fn number(a: Answer) -> u32
     ensures { result ≡ number a }
 {
     match a {
-        Answer::Done => 0,
-        Answer::Refused(r) => refusal_number(r),
+        Ok(()) => 0,
+        Err(r) => r.into(),
     }
 }
 
 // ---- the location
 
 // Where the first word of q or more stands: the codes of the record's kind and of the part, and its index. Zeros where the answer names no word.
+// Kinds and parts stay numbers: they are those of include/polka.h, and the theorems on named words (`Names`, `NamedInTwo`, `LocatedExact`) speak of them.
 #[derive(Clone, Copy)]
 pub struct Location {
     pub kind: u32,
@@ -183,12 +180,12 @@ pub fn locate(a: Answer) -> Location
     ensures { result ≡ location a }
 {
     match a {
-        Answer::Done => Location {
+        Ok(()) => Location {
             kind: 0,
             part: 0,
             index: 0,
         },
-        Answer::Refused(r) => locate_refusal(r),
+        Err(r) => locate_refusal(r),
     }
 }
 
@@ -202,45 +199,14 @@ pub fn code(a: Answer) -> u32
     number(a) + 256 * l.part + 4096 * l.kind + 65536 * ((l.index % 4096) as u32)
 }
 
-// ---- joining them
+// ---- a check
 
 // Done where the test passes.
 pub fn unless(passes: bool, refusal: Refusal) -> Answer
     ensures { result ≡ unless passes refusal Done }
 {
     if passes {
-        return Answer::Done;
+        return Ok(());
     }
-    Answer::Refused(refusal)
-}
-
-// The first answer where it refuses, and else the second.
-pub fn and_then(first: Answer, second: Answer) -> Answer
-    ensures { result ≡ and_then first second }
-{
-    if let Answer::Done = first {
-        return second;
-    }
-    first
-}
-
-// ---- a value beside an answer
-
-// The value under Done, and 0 beside a refusal.
-pub fn shown(answer: Answer, value: u32) -> u32
-    ensures { result ≡ on_done answer value 0 }
-{
-    if let Answer::Done = answer {
-        return value;
-    }
-    0
-}
-
-// Writes the value to a lent number under Done; beside a refusal that stays as it came.
-pub fn write_value(answer: Answer, value: u32, out: &mut u32)
-    ensures { out.new ≡ on_done answer value out.old }
-{
-    if let Answer::Done = answer {
-        *out = value;
-    }
+    Err(refusal)
 }

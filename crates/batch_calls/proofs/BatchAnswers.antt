@@ -14,10 +14,8 @@ use Rattle.encoding.specs.Header.{has_mark, version_of}
 use Rattle.encoding.proofs.Words.{length-element_of}
 use Rattle.answers.specs.declared.EncapsulationRecord.TheVariants.{SealedEntry}
 use Rattle.answers.specs.declared.Refusal.TheVariants.{WrongLength, WrongCount}
-use Rattle.answers.specs.declared.Answer.{Answer}
-use Rattle.answers.specs.declared.Answer.TheVariants.{Done}
 use Rattle.answers.specs.declared.Location.{Location}
-use Rattle.answers.specs.Answers.{number, unless, and_then}
+use Rattle.answers.specs.Answers.{number, unless, and_then, Answer, Done}
 use Rattle.answers.specs.Locations.{sealed_entry, c1_part, c2_part, Names}
 use Rattle.answers.proofs.AnswerLaws.{Never, unless_never, then_never, unless-says, then-says, says_either, fails-here, then-refuses, unless_names, then_names}
 use Rattle.records.specs.Layout.{sealed_entry_mark}

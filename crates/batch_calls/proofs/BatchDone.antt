@@ -9,7 +9,6 @@ use lib.ListN.{length}
 use Rattle.encoding.proofs.Words.{length-element_of}
 use Rattle.answers.specs.declared.EncapsulationRecord.TheVariants.{SealedEntry}
 use Rattle.answers.specs.declared.Refusal.TheVariants.{WrongLength, WrongCount}
-use Rattle.answers.specs.declared.Answer.TheVariants.{Done}
 use Rattle.answers.proofs.AnswerLaws.{unless-done, then-done}
 use Rattle.records.specs.Layout.{sealed_entry_mark}
 use Rattle.records.specs.Records.{header_answer, c1_word, c2_word, first_of, second_of}
@@ -18,6 +17,7 @@ use Rattle.batch_records.specs.Batches.{batch_length, count_of, is_count, batch_
 use Rattle.batch_records.specs.WellFormed.{WellFormedBatch}
 use Rattle.calls.proofs.Lengths.{one-fits}
 use Rattle.batch_calls.proofs.Lengths.{count_iff}
+use Rattle.answers.specs.Answers.{Done}
 
 -- a batch passes its own checks exactly when it is well formed
 pub batch-done : (b : List ℕ) → (batch_answer b ≡ Done) ↔ WellFormedBatch b

@@ -6,8 +6,7 @@ use native.Mathlib.Omega.{arith}
 use lib.ListN.{length}
 use Rattle.scheme.specs.Scheme.{Outcome}
 use Rattle.answers.specs.declared.Refusal.TheVariants.{WrongLength}
-use Rattle.answers.specs.declared.Answer.{Answer}
-use Rattle.answers.specs.Answers.{number, on_done}
+use Rattle.answers.specs.Answers.{number, on_done, Answer}
 use Rattle.answers.specs.Locations.{code}
 use Rattle.answers.proofs.AnswerLaws.{number-done, unless_passed, then_passed, on_done_lem, on_refusal}
 use Rattle.records.specs.Records.{first_of, second_of}

@@ -8,8 +8,7 @@ use Rattle.scheme.specs.Scheme.{Triple}
 use Rattle.derivation.specs.Derivation.{tag_of, entry_of}
 use Rattle.derivation.proofs.Laws.{entry_of-body_of}
 use Rattle.answers.specs.declared.Refusal.TheVariants.{WrongLength, WrongCount}
-use Rattle.answers.specs.declared.Answer.TheVariants.{Done}
-use Rattle.answers.specs.Answers.{number}
+use Rattle.answers.specs.Answers.{number, Done}
 use Rattle.answers.proofs.AnswerLaws.{unless_passed, on_done_lem}
 use Rattle.batch_records.specs.Batches.{batch_length, entries_length, count_block, batch_body, batch_tag, tagged_blocks}
 use Rattle.public_keys.specs.PublicKeys.{public_a, public_b}

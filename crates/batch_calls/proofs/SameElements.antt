@@ -6,8 +6,7 @@ use Prim.Native.Nat.{ℕ, ◌%◌}
 use lib.Dec.{eqb}
 use lib.ListN.{length}
 use Rattle.answers.specs.declared.Refusal.TheVariants.{WrongLength, WrongCount}
-use Rattle.answers.specs.declared.Answer.{Answer}
-use Rattle.answers.specs.Answers.{unless, on_done}
+use Rattle.answers.specs.Answers.{unless, on_done, Answer}
 use Rattle.answers.proofs.AnswerLaws.{number-done}
 use Rattle.batch_records.specs.Batches.{batch_length, is_count}
 use Rattle.public_keys.specs.PublicKeys.{public_a, public_b, public_answer}

@@ -9,8 +9,7 @@ use lib.Seq.{drop_at}
 use Rattle.scheme.specs.Scheme.{Outcome, found, failed}
 use Rattle.derivation.proofs.Laws.{length-entry_of}
 use Rattle.answers.specs.declared.Refusal.TheVariants.{WrongLength}
-use Rattle.answers.specs.declared.Answer.TheVariants.{Done}
-use Rattle.answers.specs.Answers.{number}
+use Rattle.answers.specs.Answers.{number, Done}
 use Rattle.answers.proofs.AnswerLaws.{number-done, unless-done, then-done, on_done_lem, on_refusal}
 use Rattle.records.proofs.WrittenRecords.{part_length}
 use Rattle.batch_records.specs.Batches.{body_place, count_of, batch_body, batch_tag, tagged_blocks, batch_answer}

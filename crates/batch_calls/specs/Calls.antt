@@ -4,8 +4,7 @@ use Rattle.std.specs.Prelude.{◌&&◌, List, ◌++◌, ℕ, ◌/◌, ◌%◌, e
 use Rattle.scheme.specs.Scheme.{Triple, Outcome, masked}
 use Rattle.derivation.specs.Derivation.{body_of, tag_of}
 use Rattle.answers.specs.declared.Refusal.TheVariants as Refusal
-use Rattle.answers.specs.declared.Answer.{Answer}
-use Rattle.answers.specs.Answers.{unless, and_then, on_done}
+use Rattle.answers.specs.Answers.{unless, and_then, on_done, Answer}
 use Rattle.records.specs.Layout.{header_length}
 use Rattle.records.specs.Records.{first_of, second_of}
 use Rattle.batch_records.specs.Batches.{batch_overhead, batch_length, entries_length, count_of, count_block, is_count, batch_body, batch_tag, tagged_blocks, batch_answer, batch_bytes}

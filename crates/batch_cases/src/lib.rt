@@ -5,7 +5,7 @@ ghost use Rattle.std.specs.Prelude.{◌≡◌};
 ghost use Rattle.case_outputs.specs.Outputs.{filled, output};
 ghost use Rattle.batch_cases.specs.BatchCases.{is_shown, is_kept, entries_agree, opened_agrees, open_batch_after, open_batch_agrees};
 
-use batch_opening::OpenedBatch;
+use answers::Refusal;
 use case_outputs::FILLER;
 use octets::BLOCK_LENGTH;
 
@@ -39,13 +39,17 @@ fn entries_agree(text: &[u8], count: u32, after: &[u8]) -> bool
     is_kept(text, count, after)
 }
 
-fn opened_agrees(text: &[u8], opened: OpenedBatch, after: &[u8]) -> bool
-    ensures { result ≡ opened_agrees text.now opened.answer opened.count after.now }
+fn opened_agrees(text: &[u8], opened: Result<u32, Refusal>, after: &[u8]) -> bool
+    ensures { result ≡ opened_agrees text.now opened after.now }
 {
-    let answer = opened.answer;
-    let count = opened.count;
     let told = vectors::number(text, 4);
-    case_outputs::is_told(answer, told, vectors::field(text, 5)) & entries_agree(text, count, after)
+    let words = vectors::field(text, 5);
+    match opened {
+        Ok(count) => case_outputs::is_told(Ok(()), told, words) & entries_agree(text, count, after),
+        Err(refusal) => {
+            case_outputs::is_told(Err(refusal), told, words) & entries_agree(text, 0, after)
+        }
+    }
 }
 
 fn open_batch_agrees(text: &[u8], out: &mut [u8]) -> bool

@@ -12,9 +12,7 @@ use Rattle.scheme.specs.Scheme.{Outcome}
 use Rattle.answers.specs.declared.EncapsulationRecord.TheVariants.{SealedEntry}
 use Rattle.answers.specs.declared.Refusal.{Refusal}
 use Rattle.answers.specs.declared.Refusal.TheVariants.{WrongLength, WrongCount}
-use Rattle.answers.specs.declared.Answer.{Answer}
-use Rattle.answers.specs.declared.Answer.TheVariants.{Done, Refused}
-use Rattle.answers.specs.Answers.{unless, and_then, on_done}
+use Rattle.answers.specs.Answers.{unless, and_then, on_done, Answer}
 use Rattle.answers.proofs.AnswerLaws.{on-done_once}
 use Rattle.records.specs.Layout.{header_length, sealed_entry_mark}
 use Rattle.records.specs.Records.{header_answer, c1_word, c2_word, elements_answer, first_of, second_of}
@@ -29,40 +27,41 @@ use Rattle.batch_calls.specs.Calls.{batch_outcome, open_batch_answer, in_front, 
 use Rattle.batch_calls.proofs.Untouched.{length-opened}
 use Rattle.recovery.specs.Outcomes.{opened_by}
 use Rattle.batch_opening.specs.Parts.{entries_answer, shown_entries}
+use Rattle.std.specs.Prelude.{Ok, Err}
 
 -- ---- a length that does not fit the count
 
 -- is refused by the checks of the batch
-pub not_held : (b : List ℕ) → is_count (count_of b) && eqb (length b) (batch_length (count_of b)) ≡ false → (r : Refusal) × (batch_answer b ≡ Refused r)
+pub not_held : (b : List ℕ) → is_count (count_of b) && eqb (length b) (batch_length (count_of b)) ≡ false → (r : Refusal) × (batch_answer b ≡ Err r)
 unfolding batch_answer
 not_held b e =
     by (header_answer sealed_entry_mark 2 b) (is_count (count_of b)) (eqb (length b) (batch_length (count_of b)))
     (elements_answer (c1_word SealedEntry) (c2_word SealedEntry) (first_of b) (second_of b)) e
   where
     by : (header : Answer) (counted fits : Bool) (words : Answer) → counted && fits ≡ false
-        → (r : Refusal) × (and_then header (unless counted WrongCount (unless fits WrongLength words)) ≡ Refused r)
-    by (Refused r) counted fits words e = (r, refl)
-    by Done false fits words e = (WrongCount, refl)
-    by Done true false words e = (WrongLength, refl)
-    by Done true true words e = absurd (true≢false e)
+        → (r : Refusal) × (and_then header (unless counted WrongCount (unless fits WrongLength words)) ≡ Err r)
+    by (Err r) counted fits words e = (r, refl)
+    by (Ok _) false fits words e = (WrongCount, refl)
+    by (Ok _) true false words e = (WrongLength, refl)
+    by (Ok _) true true words e = absurd (true≢false e)
 
 -- nothing behind a refusal counts
-pub refused-before : (key : Answer) {front : Answer} (r : Refusal) (o : Outcome) (blocks tag blocks' tag' : List ℕ) → front ≡ Refused r
+pub refused-before : (key : Answer) {front : Answer} (r : Refusal) (o : Outcome) (blocks tag blocks' tag' : List ℕ) → front ≡ Err r
     → opened_by key front o blocks tag ≡ opened_by key front o blocks' tag'
-refused-before Done r o blocks tag blocks' tag' e = rw e
-refused-before (Refused s) r o blocks tag blocks' tag' e = refl
+refused-before (Ok _) r o blocks tag blocks' tag' e = rw e
+refused-before (Err s) r o blocks tag blocks' tag' e = refl
 
-pub refused-keeps : {A : Type 0} (key : Answer) {front : Answer} (r : Refusal) (o : Outcome) (blocks tag : List ℕ) (new old : A) → front ≡ Refused r
+pub refused-keeps : {A : Type 0} (key : Answer) {front : Answer} (r : Refusal) (o : Outcome) (blocks tag : List ℕ) (new old : A) → front ≡ Err r
     → on_done (opened_by key front o blocks tag) new old ≡ old
-refused-keeps Done r o blocks tag new old e = rw e
-refused-keeps (Refused s) r o blocks tag new old e = refl
+refused-keeps (Ok _) r o blocks tag new old e = rw e
+refused-keeps (Err s) r o blocks tag new old e = refl
 
 -- ---- what is shown
 
 -- in the first n bytes of the output
 shown-in-front : (a : Answer) (new out : List ℕ) (n : ℕ) → length new ≡ n → on_done a new (take n out) ++ drop n out ≡ on_done a (in_front new out) out
-shown-in-front Done new out n e = rw e
-shown-in-front (Refused r) new out n e = take-append-drop n out
+shown-in-front (Ok _) new out n e = rw e
+shown-in-front (Err r) new out n e = take-append-drop n out
 
 -- the body of a batch with the length that fits
 length-body : (b : List ℕ) → length b ≡ batch_length (count_of b) → length (batch_body b) ≡ 16 * count_of b
@@ -120,7 +119,7 @@ module _ (k batch noise : List ℕ) (room : ℕ) where
   abbrev is_fitting : Bool
   is_fitting = leb header_length (length k) && leb batch_overhead (length batch) && eqb (length noise) triple_noise_length && eqb room entries_length
 
-  pub lengths_refused : is_fitting ≡ false → Refused WrongLength ≡ open_batch_answer k batch noise room
+  pub lengths_refused : is_fitting ≡ false → Err WrongLength ≡ open_batch_answer k batch noise room
   unfolding open_batch_answer
   lengths_refused e = rw e
 

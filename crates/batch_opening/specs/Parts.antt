@@ -1,7 +1,6 @@
 -- What the private functions of src/lib.rt answer and write, over the bytes of a key, and of a batch and noise that fit.
 use Rattle.std.specs.Prelude.{List, ℕ}
-use Rattle.answers.specs.declared.Answer.{Answer}
-use Rattle.answers.specs.Answers.{on_done}
+use Rattle.answers.specs.Answers.{on_done, Answer}
 use Rattle.batch_records.specs.Batches.{batch_body, batch_tag, tagged_blocks, batch_answer}
 use Rattle.secret_keys.specs.SecretKeys.{secret_answer}
 use Rattle.calls.specs.Calls.{opened_entry}

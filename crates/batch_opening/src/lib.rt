@@ -3,38 +3,30 @@
 #![tactic(auto)]
 
 ghost use Rattle.std.specs.Prelude.{◌≡◌, ◌≤◌, length};
-ghost use Rattle.answers.specs.Answers.{number, on_done};
+ghost use Rattle.answers.specs.Answers.{number, and_then, given_or};
 ghost use Rattle.keys.specs.Keys.{triple_noise_length};
 ghost use Rattle.batch_records.specs.Batches.{batch_overhead, entries_length, count_of};
-ghost use Rattle.batch_calls.specs.Calls.{open_batch_answer, open_batch_out, open_batch_count};
+ghost use Rattle.batch_calls.specs.Calls.{open_batch_answer, open_batch_out};
 ghost use Rattle.batch_calls.specs.Promises.{OpenBatchExact};
 ghost use Rattle.batch_opening.specs.Parts.{entries_answer, shown_entries};
 
-use answers::{Answer, Refusal};
+use answers::Refusal;
 use batch_records::{BATCH_OVERHEAD, BATCH_VERSION, BODY, ENTRIES_LENGTH};
 use encoding::HEADER_LENGTH;
 use keys::TRIPLE_NOISE_LENGTH;
 
-// What is answered, and how many entries were shown, 0 beside a refusal.
-#[derive(Clone, Copy)]
-pub struct OpenedBatch {
-    pub answer: Answer,
-    pub count: u32,
-}
-
 // Of any key, and a batch, noise and an output that fit. A batch whose length does not fit its count is refused as it is read, and opened without a
 // body.
-fn open_records(key: &[u8], batch: &[u8], noise: &[u8], out: &mut [u8]) -> OpenedBatch
+fn open_records(key: &[u8], batch: &[u8], noise: &[u8], out: &mut [u8]) -> Result<u32, Refusal>
     requires { (batch_overhead ≤ length batch.now) × (length noise.now ≡ triple_noise_length) × (length out.old ≡ entries_length) }
-    ensures answer_value { result.answer ≡ entries_answer key.now batch.now noise.now }
-    ensures count_value { result.count ≡ on_done (entries_answer key.now batch.now noise.now) (count_of batch.now) 0 }
+    ensures value { result ≡ and_then (entries_answer key.now batch.now noise.now) (Ok (count_of batch.now)) }
     ensures out_after { out.new ≡ shown_entries key.now batch.now noise.now out.old }
 {
     let m = batch_records::count(batch);
     let between = batch_records::count_answer(m, batch.len());
     let size = batch_records::body_length(m, batch.len());
     let l = batch_records::count_block(m);
-    let opened = opening::open_sealed(
+    opening::open_sealed(
         key,
         batch,
         BATCH_VERSION,
@@ -44,31 +36,23 @@ fn open_records(key: &[u8], batch: &[u8], noise: &[u8], out: &mut [u8]) -> Opene
         &batch[BODY..BODY + size],
         &batch[BODY + size..BATCH_OVERHEAD + size],
         &mut out[0..size],
-    );
-    let answer = opened.answer;
-    OpenedBatch {
-        answer,
-        count: answers::shown(answer, m as u32),
-    }
+    )?;
+    Ok(m as u32)
 }
 
 // entries = body xor keystream where, of the blocks B1 to Bm of the body, tag = K1^(m+1) × L + K1^m × B1 + .. + K1 × Bm + K2, of what the ternary
 // triple of (c1, c2) derives, whatever the dummy. BATCH_OVERHEAD + BLOCK_LENGTH × m bytes give the first BLOCK_LENGTH × m of ENTRIES_LENGTH, and m.
-pub fn open_batch(key: &[u8], batch: &[u8], noise: &[u8], out: &mut [u8]) -> OpenedBatch
-    ensures answer_value { result.answer ≡ open_batch_answer key.now batch.now noise.now (length out.old) }
-    ensures count_value { result.count ≡ open_batch_count key.now batch.now noise.now (length out.old) 0 }
+pub fn open_batch(key: &[u8], batch: &[u8], noise: &[u8], out: &mut [u8]) -> Result<u32, Refusal>
+    ensures value { result ≡ and_then (open_batch_answer key.now batch.now noise.now (length out.old)) (Ok (count_of batch.now)) }
     ensures out_after { out.new ≡ open_batch_out key.now batch.now noise.now out.old }
-    ensures open_batch_exact { OpenBatchExact key.now batch.now noise.now out.old 0 (number result.answer) out.new result.count }
+    ensures open_batch_exact { OpenBatchExact key.now batch.now noise.now out.old 0 (number result) out.new (given_or 0 result) }
 {
     let fits = (HEADER_LENGTH <= key.len())
         & (BATCH_OVERHEAD <= batch.len())
         & (noise.len() == TRIPLE_NOISE_LENGTH)
         & (out.len() == ENTRIES_LENGTH);
     if !fits {
-        return OpenedBatch {
-            answer: Answer::Refused(Refusal::WrongLength),
-            count: 0,
-        };
+        return Err(Refusal::WrongLength);
     }
     open_records(key, batch, noise, out)
 }

@@ -10,9 +10,7 @@ use borrow.Author.Tests.{eqb-true, leb-true}
 use Rattle.lists.proofs.ByteLists.{Small}
 use Rattle.answers.specs.declared.EncapsulationRecord.TheVariants.{SealedEntry}
 use Rattle.answers.specs.declared.Refusal.TheVariants.{WrongLength, WrongCount}
-use Rattle.answers.specs.declared.Answer.{Answer}
-use Rattle.answers.specs.declared.Answer.TheVariants.{Done}
-use Rattle.answers.specs.Answers.{unless, and_then}
+use Rattle.answers.specs.Answers.{unless, and_then, Answer, Done}
 use Rattle.records.specs.Layout.{sealed_entry_mark}
 use Rattle.records.specs.Records.{header_answer, c1_word, c2_word, elements_answer, first_of, second_of}
 use Rattle.sealed_records.specs.Front.{sealed_front_answer}

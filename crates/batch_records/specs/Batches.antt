@@ -4,8 +4,7 @@ use Rattle.std.specs.Prelude.{Bool, ◌&&◌, List, [], ◌∷◌, ◌++◌, ℕ
 use Rattle.lists.specs.Table.{zeros}
 use Rattle.answers.specs.declared.EncapsulationRecord.TheVariants.{SealedEntry}
 use Rattle.answers.specs.declared.Refusal.TheVariants.{WrongLength, WrongCount}
-use Rattle.answers.specs.declared.Answer.{Answer}
-use Rattle.answers.specs.Answers.{unless, and_then}
+use Rattle.answers.specs.Answers.{unless, and_then, Answer}
 use Rattle.records.specs.Layout.{sealed_entry_mark, block_length}
 use Rattle.records.specs.Records.{part, header_answer, c1_word, c2_word, elements_answer, first_of, second_of, record_bytes}
 

@@ -1,9 +1,7 @@
 -- The count of a batch and its length: what is answered by them, and the body that they leave.
 use Rattle.std.specs.Prelude.{Bool, ◌&&◌, cond, ℕ, ◌*◌, eqb}
 use Rattle.answers.specs.declared.Refusal.TheVariants.{WrongLength, WrongCount}
-use Rattle.answers.specs.declared.Answer.{Answer}
-use Rattle.answers.specs.declared.Answer.TheVariants.{Done}
-use Rattle.answers.specs.Answers.{unless}
+use Rattle.answers.specs.Answers.{unless, Answer, Done}
 use Rattle.batch_records.specs.Batches.{batch_length, is_count}
 
 -- 12, then 1

@@ -9,9 +9,9 @@ ghost use Rattle.batch_records.specs.Batches.{body_place, batch_overhead, entrie
 ghost use Rattle.batch_records.specs.Read.{count_answer, body_length};
 
 use answers::{Answer, Refusal};
-use ntt::Element;
 use octets::BLOCK_LENGTH;
 use records::{SEALED_ENTRY_MARK, THIRD};
+use scheme::Encapsulation;
 
 // ---- layout
 
@@ -65,12 +65,11 @@ pub fn count_answer(m: usize, size: usize) -> Answer
     requires { m ≤ 65535 }
     ensures { result ≡ count_answer m size }
 {
-    let counted = answers::unless(is_count(m), Refusal::WrongCount);
-    let held = answers::unless(
+    answers::unless(is_count(m), Refusal::WrongCount)?;
+    answers::unless(
         size == BATCH_OVERHEAD + BLOCK_LENGTH * m,
         Refusal::WrongLength,
-    );
-    answers::and_then(counted, held)
+    )
 }
 
 // How many bytes the body of a batch has, none where its length does not fit the count. It lies within the batch.
@@ -88,10 +87,10 @@ pub fn body_length(m: usize, size: usize) -> usize
 // ---- writing
 
 // What stands before the body, the count from its block L; the rest of the buffer stays as it came.
-pub fn write_front(c1: Element, c2: Element, l: [u8; BLOCK_LENGTH], out: &mut [u8])
+pub fn write_front(c: Encapsulation, l: [u8; BLOCK_LENGTH], out: &mut [u8])
     requires { body_place ≤ length out.old }
-    ensures { out.new ≡ (record_bytes sealed_entry_mark 2 c1 c2 ++ take 2 l) ++ drop body_place out.old }
+    ensures { out.new ≡ (record_bytes sealed_entry_mark 2 c.c1 c.c2 ++ take 2 l) ++ drop body_place out.old }
 {
-    records::write_record(SEALED_ENTRY_MARK, BATCH_VERSION, c1, c2, out);
+    records::write_record(SEALED_ENTRY_MARK, BATCH_VERSION, c.c1, c.c2, out);
     octets::copy(&l[0..2], &mut out[COUNT..BODY]);
 }

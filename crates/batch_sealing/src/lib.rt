@@ -4,39 +4,25 @@
 
 ghost use Rattle.std.specs.Prelude.{◌≡◌, ◌%◌, length};
 ghost use Rattle.scheme.specs.Answers as Struct;
-ghost use Rattle.answers.specs.Answers.{on_done};
 ghost use Rattle.batch_records.specs.Batches.{batch_length};
 ghost use Rattle.batch_calls.specs.Calls.{entries, seal_batch_answer, protected_batch, seal_batch_out};
 
 use answers::{Answer, Refusal};
 use batch_records::{BATCH_OVERHEAD, BODY};
 use keys::TRIPLE_NOISE_LENGTH;
-use ntt::Element;
 use octets::BLOCK_LENGTH;
-use scheme::Triple;
+use sealing::Prepared;
 
-// Writes a batch of whole entries behind c1 and c2. The body is worked off where it stands in the record.
-fn write_batch(c1: Element, c2: Element, t: Triple, blocks: &[u8], out: &mut [u8])
+// Writes a batch of whole entries. The body is worked off where it stands in the record.
+fn write_batch(p: Prepared, blocks: &[u8], out: &mut [u8])
     requires { (length blocks.now % 16 ≡ 0) × (length out.old ≡ batch_length (entries blocks.now)) }
-    ensures { out.new ≡ protected_batch c1 c2 (Struct.triple_of t) blocks.now }
+    ensures { out.new ≡ protected_batch p.c.c1 p.c.c2 (Struct.triple_of p.triple) blocks.now }
 {
-    let r = t.r;
-    let e1 = t.e1;
-    let e2 = t.e2;
     let size = blocks.len();
     let l = batch_records::count_block(size / BLOCK_LENGTH);
-    batch_records::write_front(c1, c2, l, out);
-    let tag = derivation::protect(r, e1, e2, &l, blocks, &mut out[BODY..BODY + size]);
+    batch_records::write_front(p.c, l, out);
+    let tag = derivation::protect(p.triple, &l, blocks, &mut out[BODY..BODY + size]);
     octets::write_block(tag, &mut out[BODY + size..BATCH_OVERHEAD + size]);
-}
-
-fn write_sealed(answer: Answer, c1: Element, c2: Element, t: Triple, blocks: &[u8], out: &mut [u8])
-    requires { (length blocks.now % 16 ≡ 0) × (length out.old ≡ batch_length (entries blocks.now)) }
-    ensures { out.new ≡ on_done answer (protected_batch c1 c2 (Struct.triple_of t) blocks.now) out.old }
-{
-    if let Answer::Done = answer {
-        write_batch(c1, c2, t, blocks, out);
-    }
 }
 
 // (c1, c2) = (a × r + e1, b × r + e2), by the triple of TRIPLE_NOISE_LENGTH bytes, then body = entries xor keystream and, of its blocks B1 to Bm,
@@ -47,22 +33,18 @@ pub fn seal_batch(key: &[u8], noise: &[u8], blocks: &[u8], out: &mut [u8]) -> An
 {
     let size = blocks.len();
     if size % BLOCK_LENGTH != 0 {
-        return Answer::Refused(Refusal::WrongLength);
+        return Err(Refusal::WrongLength);
     }
     if !batch_records::is_count(size / BLOCK_LENGTH) {
-        return Answer::Refused(Refusal::WrongCount);
+        return Err(Refusal::WrongCount);
     }
     let fits = public_keys::is_public_length(key.len())
         & (noise.len() == TRIPLE_NOISE_LENGTH)
         & (out.len() == BATCH_OVERHEAD + BLOCK_LENGTH * (size / BLOCK_LENGTH));
     if !fits {
-        return Answer::Refused(Refusal::WrongLength);
+        return Err(Refusal::WrongLength);
     }
-    let p = sealing::encapsulate_noise(key, noise);
-    let answer = p.answer;
-    let c1 = p.c1;
-    let c2 = p.c2;
-    let t = p.triple;
-    write_sealed(answer, c1, c2, t, blocks, out);
-    answer
+    let p = sealing::encapsulate_noise(key, noise)?;
+    write_batch(p, blocks, out);
+    Ok(())
 }

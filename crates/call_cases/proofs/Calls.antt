@@ -3,9 +3,9 @@ use mathlib.Core.Path.{◌≡◌, sym, subst}
 use mathlib.Core.List.{List}
 use Prim.Native.Nat.{ℕ}
 use lib.ListN.{length}
-use Rattle.answers.specs.declared.Answer.{Answer}
 use Rattle.call_cases.specs.declared.Call.{Call}
 use Rattle.call_cases.specs.CallCases.{call_answer, call_out}
+use Rattle.answers.specs.Answers.{Answer}
 
 -- what a call does, known to be k
 pub called : (k : Call) (x y z out : List ℕ) {call : Call} {after : List ℕ} {answer : Answer} → call ≡ k

@@ -2,8 +2,6 @@
 -- last, the number, the location, and the output.
 use Rattle.std.specs.Prelude.{Bool, List, ℕ, ◌+◌, length}
 use Rattle.shake.specs.Shake.{shake128, shake256}
-use Rattle.answers.specs.declared.Answer.{Answer}
-use Rattle.answers.specs.declared.Answer.TheVariants.{Done}
 use Rattle.calls.specs.Calls.{encapsulate_answer, encapsulate_out, decapsulate_answer, decapsulate_out, seal_answer, seal_out, open_answer, open_out}
 use Rattle.batch_calls.specs.Calls.{seal_batch_answer, seal_batch_out}
 use Rattle.conversion_calls.specs.Calls.{expand_answer, expand_out, compact_answer, compact_out}
@@ -12,6 +10,7 @@ use Rattle.case_outputs.specs.Outputs.{answer_agrees}
 use Rattle.call_cases.specs.declared.Call.{Call}
 use Rattle.call_cases.specs.declared.Call.TheVariants.{Encapsulate, Decapsulate, Seal, Open, SealBatch}
 use Rattle.call_cases.specs.declared.Call.TheVariants.{ExpandSecretKey, CompactSecretKey, Shake128, Shake256}
+use Rattle.answers.specs.Answers.{Answer, Done}
 
 -- ---- calls with one output, by their inputs x, y and z, of which a call takes as many as it has
 

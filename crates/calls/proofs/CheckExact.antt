@@ -9,8 +9,7 @@ use native.Mathlib.Omega.{arith}
 use lib.ListN.{length}
 use Rattle.ring.specs.Ring.{Invertible}
 use Rattle.encoding.specs.Header.{version_of}
-use Rattle.answers.specs.declared.Answer.TheVariants.{Done}
-use Rattle.answers.specs.Answers.{number}
+use Rattle.answers.specs.Answers.{number, Done}
 use Rattle.answers.specs.Locations.{code}
 use Rattle.records.specs.Records.{second_of, compact_bytes}
 use Rattle.records.specs.WellFormed.{WellFormedExpandedKey}

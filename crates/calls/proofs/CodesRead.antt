@@ -5,9 +5,8 @@ use mathlib.Core.List.{List}
 use Prim.Native.Nat.{ℕ, ◌<◌}
 use native.Mathlib.Decide.{ℕ_discrete}
 use native.Mathlib.Omega.{arith}
-use Rattle.answers.specs.declared.Answer.{Answer}
 use Rattle.answers.specs.declared.Location.{Location}
-use Rattle.answers.specs.Answers.{number}
+use Rattle.answers.specs.Answers.{number, Answer}
 use Rattle.answers.specs.Locations.{nowhere, location}
 use Rattle.records.specs.Named.{Named, NamedInTwo}
 use Rattle.public_keys.specs.WellFormed.{PublicNamed}

@@ -11,8 +11,7 @@ use Rattle.ring.specs.Ring.{Element}
 use Rattle.scheme.specs.Scheme.{Triple, Outcome, found, setting}
 use Rattle.scheme.proofs.Steps.{triple-same}
 use Rattle.answers.specs.declared.Refusal.TheVariants.{WrongLength}
-use Rattle.answers.specs.declared.Answer.{Answer}
-use Rattle.answers.specs.Answers.{number, on_done}
+use Rattle.answers.specs.Answers.{number, on_done, Answer}
 use Rattle.answers.specs.Locations.{code}
 use Rattle.triples.specs.Triple.{triple_bytes}
 use Rattle.records.specs.Layout.{triple_length}

@@ -8,7 +8,6 @@ use Rattle.exactness.proofs.Elements as E
 use Rattle.ring.specs.Ring.{Element}
 use Rattle.scheme.specs.Scheme.{Triple, setting, masked}
 use Rattle.scheme.proofs.Givens.{givens}
-use Rattle.answers.specs.declared.Answer.TheVariants.{Done}
 use Rattle.records.specs.Records.{first_of, second_of}
 use Rattle.public_keys.specs.PublicKeys.{is_public_length, public_a, public_b, public_answer}
 use Rattle.calls.specs.Promises.{Accepted, Ternaries, Encapsulates, PublicOf}
@@ -16,6 +15,7 @@ use Rattle.public_keys.proofs.PublicLaws.{public-done}
 use Rattle.secret_keys.proofs.SecretLaws.{second-words}
 use Rattle.secret_keys.proofs.ElementLaws.{first-words, unit-invertible}
 use Rattle.calls.proofs.CheckExact.{accepted_iff}
+use Rattle.answers.specs.Answers.{Done}
 
 pub masked-element : (a r e : List ℕ) → Element (masked a r e)
 masked-element = E.masked-element setting givens

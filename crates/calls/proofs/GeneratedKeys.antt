@@ -18,8 +18,7 @@ use Rattle.sampling.specs.Noise.{ternary_noise}
 use Rattle.sampling.specs.Stream.{taken, uniform_element}
 use Rattle.sampling.proofs.NoiseLaws.{ternary_noise-ternary}
 use Rattle.sampling.proofs.Streams.{uniform_element_lem}
-use Rattle.answers.specs.declared.Answer.TheVariants.{Done}
-use Rattle.answers.specs.Answers.{number}
+use Rattle.answers.specs.Answers.{number, Done}
 use Rattle.records.specs.Records.{first_of, second_of, codes_part, secret_of, record_bytes, seed_of, seeded_b}
 use Rattle.seeds.specs.Seeds.{seed_stream, seed_element}
 use Rattle.public_keys.specs.PublicKeys.{is_seeded_key, public_answer}

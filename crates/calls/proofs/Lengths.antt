@@ -10,9 +10,8 @@ use lib.Dec.{eqb, leb}
 use lib.ListN.{length}
 use borrow.Author.Tests.{eqb-true, eq-eqb, leb-true, le-leb}
 use Rattle.answers.specs.declared.Refusal.TheVariants.{WrongLength}
-use Rattle.answers.specs.declared.Answer.{Answer}
 use Rattle.answers.specs.declared.Location.{Location}
-use Rattle.answers.specs.Answers.{number, unless}
+use Rattle.answers.specs.Answers.{number, unless, Answer}
 use Rattle.answers.specs.Locations.{Names}
 use Rattle.answers.proofs.AnswerLaws.{unless-says, unless_names}
 use Rattle.public_keys.specs.PublicKeys.{is_public_length}

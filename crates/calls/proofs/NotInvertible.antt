@@ -9,8 +9,7 @@ use native.Mathlib.Omega.{arith}
 use lib.ListN.{length}
 use Rattle.ring.specs.Ring.{Invertible}
 use Rattle.answers.specs.declared.Refusal.TheVariants.{WrongLength}
-use Rattle.answers.specs.declared.Answer.{Answer}
-use Rattle.answers.specs.Answers.{number, unless, and_then}
+use Rattle.answers.specs.Answers.{number, unless, and_then, Answer}
 use Rattle.records.specs.Records.{first_of, second_of, body_part, tag_part, c1_of, c2_of}
 use Rattle.seeds.specs.Seeds.{seed_stream}
 use Rattle.public_keys.specs.PublicKeys.{public_answer}

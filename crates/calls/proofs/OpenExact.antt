@@ -10,9 +10,7 @@ use Rattle.ring.specs.Ring.{Element}
 use Rattle.scheme.specs.Scheme.{Triple, Outcome, found, setting}
 use Rattle.derivation.specs.Derivation.{tag_of, entry_of}
 use Rattle.answers.specs.declared.Refusal.TheVariants.{WrongLength}
-use Rattle.answers.specs.declared.Answer.{Answer}
-use Rattle.answers.specs.declared.Answer.TheVariants.{Done}
-use Rattle.answers.specs.Answers.{number, on_done}
+use Rattle.answers.specs.Answers.{number, on_done, Answer, Done}
 use Rattle.answers.specs.Locations.{code}
 use Rattle.records.specs.Layout.{block_length}
 use Rattle.records.specs.Records.{first_of, second_of, body_part, tag_part}

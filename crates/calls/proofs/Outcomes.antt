@@ -14,8 +14,7 @@ use Rattle.encoding.proofs.Codes.{ternary_of-ternary}
 use Rattle.sampling.proofs.NoiseLaws.{ternary_noise-ternary}
 use Rattle.derivation.specs.Derivation.{tag_of, is_genuine}
 use Rattle.answers.specs.declared.Refusal.TheVariants.{TagMismatch}
-use Rattle.answers.specs.declared.Answer.TheVariants.{Done}
-use Rattle.answers.specs.Answers.{number, unless}
+use Rattle.answers.specs.Answers.{number, unless, Done}
 use Rattle.records.specs.Records.{first_of, second_of}
 use Rattle.triples.specs.Triple.{triple_of}
 use Rattle.secret_keys.specs.SecretKeys.{KeyElements, elements_of}

@@ -4,8 +4,7 @@ use mathlib.Core.List.{List}
 use Prim.Native.Nat.{ℕ}
 use lib.ListN.{length}
 use Rattle.gf128.specs.Bytes.{Block}
-use Rattle.answers.specs.declared.Answer.TheVariants.{Done}
-use Rattle.answers.specs.Answers.{number}
+use Rattle.answers.specs.Answers.{number, Done}
 use Rattle.records.specs.Layout.{sealed_entry_length, encapsulation_length, triple_length, block_length}
 use Rattle.triples.specs.Triple.{triple_of}
 use Rattle.triples.specs.WellFormed.{WellFormedTriple}

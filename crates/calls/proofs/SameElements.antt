@@ -6,8 +6,7 @@ use Prim.Native.Nat.{ℕ}
 use lib.Dec.{eqb}
 use lib.ListN.{length}
 use Rattle.answers.specs.declared.Refusal.TheVariants.{WrongLength}
-use Rattle.answers.specs.declared.Answer.{Answer}
-use Rattle.answers.specs.Answers.{unless, and_then, on_done}
+use Rattle.answers.specs.Answers.{unless, and_then, on_done, Answer}
 use Rattle.triples.specs.Triple.{triple_of, triple_answer}
 use Rattle.public_keys.specs.PublicKeys.{is_public_length, public_a, public_b, public_answer}
 use Rattle.keys.specs.Keys.{noise_triple}

@@ -9,9 +9,7 @@ use lib.ListN.{length}
 use Rattle.ring.specs.Ring.{Invertible}
 use Rattle.sampling.specs.Stream.{taken}
 use Rattle.answers.specs.declared.Refusal.TheVariants.{WrongLength}
-use Rattle.answers.specs.declared.Answer.{Answer}
-use Rattle.answers.specs.declared.Answer.TheVariants.{Done}
-use Rattle.answers.specs.Answers.{unless}
+use Rattle.answers.specs.Answers.{unless, Answer, Done}
 use Rattle.records.specs.Records.{first_of, second_of, body_part, tag_part, sealed_entry_answer, c1_of, c2_of, encapsulation_answer}
 use Rattle.triples.specs.Triple.{triple_answer}
 use Rattle.seeds.specs.Seeds.{seed_stream}

@@ -1,16 +1,14 @@
 -- What each public call answers and what its lent outputs hold afterwards, over the lent bytes (document 01, "Bytes" and "What the desk
 -- says"; document 02, No. 2, 3 and 5). Every definition holds for buffers of all lengths. Under any answer but Done an output is as it came.
 -- `room`, and `public` and `secret` where they are numbers, are the lengths of outputs.
-use Rattle.std.specs.Prelude.{◌&&◌, List, ℕ, eqb, leb, length}
+use Rattle.std.specs.Prelude.{◌&&◌, List, ℕ, eqb, leb, length, Err}
 use Rattle.lists.specs.Table.{zeros}
 use Rattle.scheme.specs.Scheme.{Triple, Outcome, found, failed, masked, decapsulation}
 use Rattle.sampling.specs.Noise.{noise_length, ternary_noise}
 use Rattle.sampling.specs.Stream.{stream_length, uniform_element}
 use Rattle.derivation.specs.Derivation.{body_of, tag_of, is_genuine, entry_of}
 use Rattle.answers.specs.declared.Refusal.TheVariants as Refusal
-use Rattle.answers.specs.declared.Answer.{Answer}
-use Rattle.answers.specs.declared.Answer.TheVariants.{Done, Refused}
-use Rattle.answers.specs.Answers.{unless, and_then, on_done}
+use Rattle.answers.specs.Answers.{unless, and_then, on_done, Answer, Done}
 use Rattle.records.specs.Layout.{header_length, public_key_length, seed_length, seeded_key_length, secret_key_length, sealed_entry_length, encapsulation_length, triple_length, block_length}
 use Rattle.records.specs.Records.{first_of, second_of, body_part, tag_part, sealed_entry_answer, public_key_bytes, secret_key_bytes, seeded_key_bytes, sealed_entry_bytes}
 use Rattle.records.specs.Records.{c1_of, c2_of, encapsulation_answer, encapsulation_bytes}
@@ -89,7 +87,7 @@ outcome key dummy c1 c2 = decapsulation key.a key.b key.inverse key.s dummy c1 c
 -- 9
 abbrev pub outcome_answer : Outcome → Answer
 outcome_answer (found t) = Done
-outcome_answer failed = Refused Refusal.DecapsulationFailure
+outcome_answer failed = Err Refusal.DecapsulationFailure
 
 -- written only where a triple was found
 abbrev pub outcome_bytes : Outcome → List ℕ
@@ -134,7 +132,7 @@ seal_out k noise entry out = on_done (seal_answer k noise entry (length out)) (s
 -- 9, then 10; the tag is that of `blocks`, which are the body of a sealed entry
 abbrev pub opened_answer : (o : Outcome) (blocks tag : List ℕ) → Answer
 opened_answer (found t) blocks tag = unless (is_genuine t.r t.e1 t.e2 blocks tag) Refusal.TagMismatch Done
-opened_answer failed blocks tag = Refused Refusal.DecapsulationFailure
+opened_answer failed blocks tag = Err Refusal.DecapsulationFailure
 
 -- written only where a triple was found and the tag is right
 abbrev pub opened_entry : (o : Outcome) (body : List ℕ) → List ℕ

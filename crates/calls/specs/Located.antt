@@ -1,9 +1,7 @@
 -- Document 02, No. 3: 4 and 11 name the first word that is q or more, and the code that an export answers is read back.
 use Rattle.std.specs.Prelude.{◌≡◌, ◌↔◌, List, ℕ, ◌<◌, length}
-use Rattle.answers.specs.declared.Answer.{Answer}
-use Rattle.answers.specs.declared.Answer.TheVariants.{Done}
 use Rattle.answers.specs.declared.Location.{Location}
-use Rattle.answers.specs.Answers.{number}
+use Rattle.answers.specs.Answers.{number, Answer, Done}
 use Rattle.answers.specs.Locations.{sealed_entry, encapsulation, c1_part, c2_part, nowhere, location, Names, code, code_number, code_location}
 use Rattle.records.specs.Layout.{sealed_entry_mark, sealed_entry_length, encapsulation_length, triple_length, block_length}
 use Rattle.records.specs.Records.{first_of, second_of, c1_of, c2_of}

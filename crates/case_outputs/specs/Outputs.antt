@@ -1,7 +1,6 @@
 -- The answer and the outputs of a case: outputs before the call, and when they and the answer are what the case tells after it.
 use Rattle.std.specs.Prelude.{Bool, ◌&&◌, cond, List, ℕ, min, eqb, length, replicate}
-use Rattle.answers.specs.declared.Answer.{Answer}
-use Rattle.answers.specs.Answers.{number}
+use Rattle.answers.specs.Answers.{number, Answer}
 use Rattle.answers.specs.Locations.{location}
 use Rattle.location_text.specs.Words.{location_text}
 use Rattle.vectors.specs.Fields.{word32, field}

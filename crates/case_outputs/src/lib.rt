@@ -19,11 +19,11 @@ pub fn output_buffer() -> [u8; 65536]
 }
 
 // How many bytes an output has, whose length stands in field i.
+#[tactic(auto, unfolding(crate::specs::Outputs::room))]
 pub fn room(text: &[u8], i: usize) -> usize
     ensures { (result ≡ room i text.now) × (result ≤ 65536) }
 {
-    let size = vectors::number(text, i) as usize;
-    if size < 65536 { size } else { 65536 }
+    (vectors::number(text, i) as usize).min(65536)
 }
 
 fn output_agrees(told: u32, bytes: &[u8], after: &[u8]) -> bool
@@ -39,10 +39,7 @@ fn output_agrees(told: u32, bytes: &[u8], after: &[u8]) -> bool
 pub fn is_located(l: Location, words: &[u8]) -> bool
     ensures { result ≡ is_same (location_text l) words.now }
 {
-    let text = location_text::words(l);
-    let bytes = text.bytes;
-    let end = text.length;
-    vectors::same(&bytes[0..end], words)
+    vectors::same(location_text::words(l).as_bytes(), words)
 }
 
 // Whether an answer is the one that a case tells by its number and its location in words.

@@ -11,9 +11,8 @@ use lib.Dec.{eqb, leb}
 use lib.ListN.{length}
 use Rattle.encoding.specs.Header.{has_mark, version_of}
 use Rattle.answers.specs.declared.Refusal.TheVariants.{WrongLength}
-use Rattle.answers.specs.declared.Answer.{Answer}
 use Rattle.answers.specs.declared.Location.{Location}
-use Rattle.answers.specs.Answers.{number, unless}
+use Rattle.answers.specs.Answers.{number, unless, Answer}
 use Rattle.answers.specs.Locations.{Names}
 use Rattle.records.specs.Layout.{secret_key_mark, header_length}
 use Rattle.secret_keys.specs.SecretKeys.{secret_answer, version_answer}

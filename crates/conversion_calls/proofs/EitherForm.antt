@@ -11,9 +11,7 @@ use Rattle.ring.specs.Ring.{Element}
 use Rattle.ring.specs.Invertible.{inverse_of}
 use Rattle.scheme.specs.Scheme.{Triple, Outcome}
 use Rattle.answers.specs.declared.Refusal.TheVariants.{WrongLength}
-use Rattle.answers.specs.declared.Answer.{Answer}
-use Rattle.answers.specs.declared.Answer.TheVariants.{Done, Refused}
-use Rattle.answers.specs.Answers.{unless, and_then, on_done}
+use Rattle.answers.specs.Answers.{unless, and_then, on_done, Answer, Done}
 use Rattle.records.specs.Layout.{header_length, sealed_entry_length, encapsulation_length, triple_length, block_length}
 use Rattle.records.specs.Records.{first_of, second_of, body_part, tag_part, sealed_entry_answer, c1_of, c2_of, encapsulation_answer}
 use Rattle.triples.specs.Triple.{triple_of}
@@ -31,18 +29,19 @@ use Rattle.calls.proofs.CheckExact.{accepted-size, accepted-done}
 use Rattle.calls.proofs.Outcomes.{coded-ternary, noise-ternary, accepted-sound, outcome_free}
 use Rattle.batch_calls.proofs.BatchDone.{batch-done}
 use Rattle.conversion_calls.specs.Promises.{SameKey, EitherFormOneAnswer}
+use Rattle.std.specs.Prelude.{Ok, Err}
 
 -- what an opening says and writes of what it found, behind the tests of lengths and the checks of what is opened: it is looked at only where
 -- these pass
 same_behind : {A : Type 0} (fit : Bool) (checked : Answer) (say : Outcome → Answer) (put : Outcome → A) (before : A) (o o' : Outcome) → (checked ≡ Done → o ≡ o')
     → (unless fit WrongLength (and_then checked (say o)) ≡ unless fit WrongLength (and_then checked (say o')))
     × (on_done (unless fit WrongLength (and_then checked (say o))) (put o) before ≡ on_done (unless fit WrongLength (and_then checked (say o'))) (put o') before)
-same_behind fit Done say put before o o' same =
+same_behind fit (Ok _) say put before o o' same =
     let e = same refl in
     let said : Outcome → Answer = λ x. unless fit WrongLength (say x) in
     (ap said e, ap (λ (x : Outcome). on_done (said x) (put x) before) e)
-same_behind true (Refused r) say put before o o' same = (refl, refl)
-same_behind false (Refused r) say put before o o' same = (refl, refl)
+same_behind true (Err r) say put before o o' same = (refl, refl)
+same_behind false (Err r) say put before o o' same = (refl, refl)
 
 module _ (k k' : List ℕ) (accepted : Accepted k) (accepted' : Accepted k') (same : SameKey k k') where
   same-elements : elements_of k ≡ elements_of k'

@@ -5,8 +5,7 @@ use mathlib.Core.Logic.{◌↔◌}
 use mathlib.Core.List.{List}
 use Prim.Native.Nat.{ℕ}
 use lib.ListN.{length}
-use Rattle.answers.specs.declared.Answer.{Answer}
-use Rattle.answers.specs.Answers.{number}
+use Rattle.answers.specs.Answers.{number, Answer}
 use Rattle.answers.specs.Locations.{code}
 use Rattle.answers.proofs.AnswerLaws.{number-done}
 use Rattle.answers.proofs.CodeLaws.{code-done}

@@ -3,8 +3,7 @@
 use Rattle.std.specs.Prelude.{◌&&◌, List, ℕ, eqb, leb, length}
 use Rattle.ring.specs.Invertible.{inverse_of}
 use Rattle.answers.specs.declared.Refusal.TheVariants.{WrongLength}
-use Rattle.answers.specs.declared.Answer.{Answer}
-use Rattle.answers.specs.Answers.{unless, on_done}
+use Rattle.answers.specs.Answers.{unless, on_done, Answer}
 use Rattle.records.specs.Layout.{header_length, secret_key_version, expanded_key_version, secret_key_length, expanded_key_length}
 use Rattle.records.specs.Records.{second_of, compact_bytes, expanded_bytes}
 use Rattle.secret_keys.specs.SecretKeys.{version_answer}

@@ -3,13 +3,14 @@
 #![tactic(auto)]
 
 ghost use Rattle.std.specs.Prelude.{◌≡◌, ◌∷◌, ◌++◌, ◌%◌, ◌<◌, length};
+ghost use Rattle.std.specs.Bool.{then_some};
 ghost use Rattle.gf128.specs.Bytes.{block};
 ghost use Rattle.triples.specs.Triple.{triple_bytes};
 ghost use Rattle.derivation.specs.Derivation.{key_material, key0, key1, key2, keystream, under_keystream, body_of, tag_of, is_genuine};
 
-use ntt::Element;
 use octets::BLOCK_LENGTH;
 use records::TRIPLE_LENGTH;
+use scheme::Triple;
 
 // What is hashed for the keys and for the keystream, and the three keys.
 const KEY_INPUT: usize = 1 + TRIPLE_LENGTH;
@@ -29,19 +30,19 @@ struct Keys {
 }
 
 // What the keys are hashed from: byte 0x01 and the triple.
-fn key_input(r: Element, e1: Element, e2: Element) -> [u8; KEY_INPUT]
-    ensures { result ≡ 0x01 ∷ triple_bytes r e1 e2 }
+fn key_input(t: Triple) -> [u8; KEY_INPUT]
+    ensures { result ≡ 0x01 ∷ triple_bytes t.r t.e1 t.e2 }
 {
     let mut input = [0u8; KEY_INPUT];
     input[0] = 0x01;
-    triples::write_triple(r, e1, e2, &mut input[1..KEY_INPUT]);
+    triples::write_triple(t, &mut input[1..KEY_INPUT]);
     input
 }
 
-fn key_material(r: Element, e1: Element, e2: Element) -> [u8; KEY_MATERIAL]
-    ensures { result ≡ key_material r e1 e2 }
+fn key_material(t: Triple) -> [u8; KEY_MATERIAL]
+    ensures { result ≡ key_material t.r t.e1 t.e2 }
 {
-    let input = key_input(r, e1, e2);
+    let input = key_input(t);
     let mut material = [0u8; KEY_MATERIAL];
     shake::shake256(&input, &mut material);
     material
@@ -52,18 +53,14 @@ fn part(material: [u8; KEY_MATERIAL], i: usize) -> [u8; BLOCK_LENGTH]
     requires { i < 3 }
     ensures { result ≡ block i material }
 {
-    let mut key = [0u8; BLOCK_LENGTH];
     let at = BLOCK_LENGTH * i;
-    for j in 0..BLOCK_LENGTH {
-        key[j] = material[at + j];
-    }
-    key
+    octets::read_block(&material[at..at + BLOCK_LENGTH])
 }
 
-fn derive_keys(r: Element, e1: Element, e2: Element) -> Keys
-    ensures { (result.k0 ≡ key0 r e1 e2) × (result.k1 ≡ key1 r e1 e2) × (result.k2 ≡ key2 r e1 e2) }
+fn derive_keys(t: Triple) -> Keys
+    ensures { (result.k0 ≡ key0 t.r t.e1 t.e2) × (result.k1 ≡ key1 t.r t.e1 t.e2) × (result.k2 ≡ key2 t.r t.e1 t.e2) }
 {
-    let material = key_material(r, e1, e2);
+    let material = key_material(t);
     Keys {
         k0: part(material, 0),
         k1: part(material, 1),
@@ -79,9 +76,7 @@ fn keystream_input(k0: [u8; BLOCK_LENGTH]) -> [u8; KEYSTREAM_INPUT]
 {
     let mut input = [0u8; KEYSTREAM_INPUT];
     input[0] = 0x02;
-    for i in 0..BLOCK_LENGTH {
-        input[i + 1] = k0[i];
-    }
+    octets::write_block(k0, &mut input[1..KEYSTREAM_INPUT]);
     input
 }
 
@@ -105,53 +100,28 @@ pub fn under_keystream(k0: [u8; BLOCK_LENGTH], text: &[u8], out: &mut [u8])
 // ---- entries; the tag is that of the blocks in `front`, of which a single entry has none, and of the body
 
 // Writes the body of an entry, and gives the tag.
-pub fn protect(
-    r: Element,
-    e1: Element,
-    e2: Element,
-    front: &[u8],
-    entry: &[u8],
-    body: &mut [u8],
-) -> [u8; BLOCK_LENGTH]
+pub fn protect(t: Triple, front: &[u8], entry: &[u8], body: &mut [u8]) -> [u8; BLOCK_LENGTH]
     requires { (length front.now % 16 ≡ 0) × (length entry.now ≡ length body.old) }
-    ensures body_after { body.new ≡ body_of r e1 e2 entry.now }
-    ensures value { result ≡ tag_of r e1 e2 (front.now ++ body_of r e1 e2 entry.now) }
+    ensures body_after { body.new ≡ body_of t.r t.e1 t.e2 entry.now }
+    ensures value { result ≡ tag_of t.r t.e1 t.e2 (front.now ++ body_of t.r t.e1 t.e2 entry.now) }
 {
-    let keys = derive_keys(r, e1, e2);
-    let k0 = keys.k0;
-    let k1 = keys.k1;
-    let k2 = keys.k2;
-    under_keystream(k0, entry, body);
-    gf128::tag(k1, front, body, k2)
+    let keys = derive_keys(t);
+    under_keystream(keys.k0, entry, body);
+    gf128::tag(keys.k1, front, body, keys.k2)
 }
 
-// Whether a tag is right, and K0, which shows the entry.
-#[derive(Clone, Copy)]
-pub struct Verified {
-    pub genuine: bool,
-    pub k0: [u8; BLOCK_LENGTH],
-}
-
-// Nothing of the entry is worked out here.
+// K0, which shows the entry, if the tag is right. Nothing of the entry is worked out here.
 pub fn verify(
-    r: Element,
-    e1: Element,
-    e2: Element,
+    t: Triple,
     front: &[u8],
     body: &[u8],
     tag: [u8; BLOCK_LENGTH],
-) -> Verified
+) -> Option<[u8; BLOCK_LENGTH]>
     requires { length front.now % 16 ≡ 0 }
-    ensures genuine_value { result.genuine ≡ is_genuine r e1 e2 (front.now ++ body.now) tag }
-    ensures k0_value { result.k0 ≡ key0 r e1 e2 }
+    ensures { result ≡ then_some (is_genuine t.r t.e1 t.e2 (front.now ++ body.now) tag) (key0 t.r t.e1 t.e2) }
 {
-    let keys = derive_keys(r, e1, e2);
+    let keys = derive_keys(t);
+    let expected = gf128::tag(keys.k1, front, body, keys.k2);
     let k0 = keys.k0;
-    let k1 = keys.k1;
-    let k2 = keys.k2;
-    let expected = gf128::tag(k1, front, body, k2);
-    Verified {
-        genuine: gf128::equal(tag, expected),
-        k0,
-    }
+    gf128::equal(tag, expected).then_some(k0)
 }

@@ -8,13 +8,19 @@ use lib.ListN.{length}
 use borrow.Author.Tests.{ne_eqb}
 use Rattle.text.specs.Text.{digits_of}
 use Rattle.encoding.specs.Header.{has_mark, version_of}
-use Rattle.answers.specs.declared.Answer.{Answer}
-use Rattle.answers.specs.Answers.{number}
+use Rattle.answers.specs.Answers.{number, and_then, Answer}
 use Rattle.records.specs.Layout.{secret_key_mark, secret_key_version}
-use Rattle.answer_line.specs.Line.{shown, line_of}
+use Rattle.std.specs.Prelude.{Ok}
+use Rattle.answer_line.specs.Line.{shown, line_of, opened_line}
+use Rattle.answer_line.proofs.Lines.{line_by}
 use Rattle.desk_opening.specs.Input.{key_part, desk_answer, desk_entry}
 use Rattle.desk_opening.proofs.Answers.{answer_by_length, other_version}
 use Rattle.desk_line.specs.Line.{desk_line}
+
+-- what was opened, in a line
+pub opened_in_line : (input : List ℕ) → opened_line (and_then (desk_answer input) (Ok (desk_entry input))) ≡ desk_line input
+unfolding desk_line
+opened_in_line input = line_by (desk_answer input) (desk_entry input)
 
 pub line_by-answer : (input : List ℕ) {answer : Answer} {entry : List ℕ} → answer ≡ desk_answer input → entry ≡ desk_entry input
     → desk_line input ≡ line_of (number answer) (shown answer entry)

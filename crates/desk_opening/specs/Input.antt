@@ -2,8 +2,7 @@
 use Rattle.std.specs.Prelude.{List, ℕ, eqb, length}
 use Rattle.lists.specs.Table.{zeros}
 use Rattle.answers.specs.declared.Refusal.TheVariants.{WrongLength}
-use Rattle.answers.specs.declared.Answer.{Answer}
-use Rattle.answers.specs.Answers.{unless, and_then, on_done}
+use Rattle.answers.specs.Answers.{unless, and_then, on_done, Answer}
 use Rattle.records.specs.Layout.{secret_key_mark, secret_key_version, secret_key_length, sealed_entry_length, block_length}
 use Rattle.records.specs.Records.{part, header_answer}
 use Rattle.keys.specs.Keys.{triple_noise_length}

@@ -10,6 +10,7 @@ use records::{
     SEALED_ENTRY_MARK, SECRET_KEY_LENGTH, SECRET_KEY_MARK,
 };
 use sampling::STREAM_LENGTH;
+use scheme::Encapsulation;
 
 // ---- elements and records
 
@@ -51,7 +52,11 @@ pub fn encapsulation(c1: u16, c2: u16) -> [u8; ENCAPSULATION_LENGTH]
     ensures { result ≡ encapsulation c1 c2 }
 {
     let mut c = [0u8; ENCAPSULATION_LENGTH];
-    sealed_records::write_encapsulation(constant(c1), constant(c2), &mut c);
+    let pair = Encapsulation {
+        c1: constant(c1),
+        c2: constant(c2),
+    };
+    sealed_records::write_encapsulation(pair, &mut c);
     c
 }
 

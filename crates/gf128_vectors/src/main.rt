@@ -6,7 +6,6 @@ ghost use Rattle.vectors.specs.Answers.{report};
 ghost use Rattle.gf128_vectors.specs.Cases.{is_case, agrees, verdict};
 
 use std::io;
-use std::rt::Files;
 use vectors::{Report, Verdict};
 
 fn agrees(text: &[u8]) -> bool
@@ -32,23 +31,9 @@ fn judge(text: &[u8]) -> Verdict
 fn judge_cases(text: &[u8]) -> Report
     ensures { result ≡ report verdict 5 text.now }
 {
-    let mut report = Report::Counts(0, 0);
-    let mut at = 0;
-    while at < text.len() {
-        let next = vectors::counted(report, judge(&text[at..]), at);
-        report = next;
-        at = vectors::after_case(text, at, 5);
-    }
-    report
-}
-
-fn check_file(rt: &(impl Files + Print), name: &[u8]) -> io::Result<()> {
-    let mut buffer = vectors::file_buffer();
-    let read = vectors::read_file(rt, name, &mut buffer);
-    let report = judge_cases(vectors::read_bytes(read, &buffer));
-    report_line::print(rt, name, read, report)
+    vectors::judge_cases(text, 5, judge)
 }
 
 fn main(rt: HostRuntime) -> io::Result<()> {
-    check_file(&rt, b"example_field_products.bin")
+    report_line::check_file(&rt, b"example_field_products.bin", judge_cases)
 }

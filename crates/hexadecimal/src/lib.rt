@@ -13,7 +13,7 @@ pub fn digit(n: u8) -> u8
     if low < 10 { b'0' + low } else { 87 + low }
 }
 
-// The value of a digit, and 16 for any other byte.
+// The value of a digit. It is 16 for any other byte, as in the definition that the theorems cite.
 pub fn value(c: u8) -> u8
     ensures { result ≡ value_of c }
 {
@@ -29,14 +29,9 @@ pub fn value(c: u8) -> u8
 fn count_digits(text: &[u8]) -> usize
     ensures { result ≡ first_failing is_digit text.now }
 {
-    let mut i = 0;
-    while i < text.len() {
-        if value(text[i]) >= 16 {
-            return i;
-        }
-        i += 1;
-    }
-    i
+    text.iter()
+        .position(|c| value(*c) >= 16)
+        .unwrap_or(text.len())
 }
 
 // Fills a buffer that the text of the bytes fills, or part of it.
@@ -44,11 +39,9 @@ fn put_text(bytes: &[u8], out: &mut [u8])
     requires { length out.old ≤ 2 * length bytes.now }
     ensures { out.new ≡ take (length out.old) (text_of bytes.now) }
 {
-    let mut i = 0;
-    while i < out.len() {
+    for i in 0..out.len() {
         let b = bytes[i / 2];
         out[i] = if i % 2 == 0 { digit(b / 16) } else { digit(b) };
-        i += 1;
     }
 }
 
@@ -57,10 +50,8 @@ fn put_bytes(text: &[u8], out: &mut [u8])
     requires { 2 * length out.old ≤ first_failing is_digit text.now }
     ensures { out.new ≡ take (length out.old) (bytes_of text.now) }
 {
-    let mut i = 0;
-    while i < out.len() {
+    for i in 0..out.len() {
         out[i] = 16 * value(text[2 * i]) + value(text[2 * i + 1]);
-        i += 1;
     }
 }
 
@@ -69,7 +60,7 @@ fn put_bytes(text: &[u8], out: &mut [u8])
 pub fn encode(bytes: &[u8], out: &mut [u8])
     ensures { out.new ≡ written (text_of bytes.now) out.old }
 {
-    let n = octets::lesser(2 * bytes.len(), out.len());
+    let n = (2 * bytes.len()).min(out.len());
     put_text(bytes, &mut out[..n]);
 }
 
@@ -80,7 +71,7 @@ pub fn decode(text: &[u8], out: &mut [u8]) -> usize
     ensures value { result ≡ min (length (decoded text.now)) (length out.old) }
     ensures out_after { out.new ≡ written (decoded text.now) out.old }
 {
-    let n = octets::lesser(count_digits(text) / 2, out.len());
+    let n = (count_digits(text) / 2).min(out.len());
     put_bytes(text, &mut out[..n]);
     n
 }

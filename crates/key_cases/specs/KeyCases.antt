@@ -1,12 +1,12 @@
 -- When what key making, and the check of a key, do agrees with what a case tells. The fields of a case are the inputs, with the lengths of the
 -- outputs last, the number, the location, and the outputs.
 use Rattle.std.specs.Prelude.{Bool, ◌&&◌, List, ℕ, length}
-use Rattle.answers.specs.declared.Answer.{Answer}
 use Rattle.calls.specs.Calls.{check_answer, keygen_answer, keygen_public, keygen_secret, seeded_keygen_answer, seeded_keygen_public, seeded_keygen_secret}
 use Rattle.vectors.specs.Fields.{word32, field}
 use Rattle.case_outputs.specs.Outputs.{answer_told, answer_agrees}
 use Rattle.key_cases.specs.declared.Source.{Source}
 use Rattle.key_cases.specs.declared.Source.TheVariants.{Stream, Seed}
+use Rattle.answers.specs.Answers.{Answer}
 
 abbrev pub check_agrees : List ℕ → Bool
 check_agrees text = answer_told (check_answer (field 0 text)) (word32 (field 1 text)) (field 2 text)

@@ -19,7 +19,8 @@ pub fn check_agrees(text: &[u8]) -> bool
 
 // ---- keygen
 
-// What a is read from, the first input: a stream, or the seed of one.
+// What a is read from, the first input: a stream, or the seed of one. Definitions of the answer and of both keys are by it, so a closure
+// would be no plainer.
 #[derive(Clone, Copy)]
 pub enum Source {
     Stream,

@@ -9,7 +9,6 @@ use Rattle.ring.specs.Invertible.{inverse_of}
 use Rattle.ring.proofs.RingLaws.{inverse-times}
 use Rattle.ring.proofs.Spectra.{coefficients_through}
 use Rattle.ntt.specs.Spectrum.{spectrum_of, coefficients_of}
-use Rattle.answers.specs.declared.Answer.TheVariants.{Done}
 use Rattle.records.specs.Layout.{secret_key_version, secret_key_length}
 use Rattle.records.specs.Records.{second_of}
 use Rattle.secret_keys.specs.SecretKeys.{KeyElements, elements_of, version_answer}
@@ -17,6 +16,7 @@ use Rattle.secret_keys.specs.WellFormed.{WellFormedAs}
 use Rattle.secret_keys.proofs.Checks.{version_in}
 use Rattle.secret_keys.proofs.VersionLaws.{version-done}
 use Rattle.secret_keys.proofs.ElementLaws.{elements_of_lem}
+use Rattle.answers.specs.Answers.{Done}
 
 -- a, b and s are there
 pub long_enough : (expanded : Bool) (k : List ℕ) → version_answer (version_in expanded) k ≡ Done → secret_key_length ≤ length k

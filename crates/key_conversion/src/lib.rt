@@ -3,45 +3,38 @@
 #![tactic(auto)]
 
 ghost use Rattle.std.specs.Prelude.{◌≡◌, ◌≤◌, length};
-ghost use Rattle.ntt.specs.Spectrum.{spectrum_of};
 ghost use Rattle.ntt.specs.Factors.{forward_factors, backward_factors};
-ghost use Rattle.answers.specs.Answers.{number};
+ghost use Rattle.answers.specs.Answers.{number, and_then};
 ghost use Rattle.records.specs.Layout.{secret_key_length, expanded_key_length};
 ghost use Rattle.records.specs.Records.{compact_bytes, expanded_bytes};
 ghost use Rattle.secret_keys.specs.SecretKeys.{elements_of, version_answer};
+ghost use Rattle.secret_keys.specs.Read.{spectra_of};
 ghost use Rattle.conversion_calls.specs.Calls.{expand_answer, expand_out, compact_answer, compact_out};
 ghost use Rattle.conversion_calls.specs.Promises.{ExpandExact, CompactExact};
 
 use answers::{Answer, Refusal};
 use encoding::HEADER_LENGTH;
-use ntt::{Element, FACTORS, Spectrum};
+use ntt::{Element, FACTORS};
 use records::{
     EXPANDED_KEY_LENGTH, EXPANDED_KEY_VERSION, FIRST, INVERSE, SECRET_KEY_LENGTH, SECRET_KEY_MARK,
     SECRET_KEY_VERSION,
 };
+use scheme::SecretKey;
 
 // ---- a key of one version
 
-// What its checks answer, and the spectrum of the inverse of its b.
-#[derive(Clone, Copy)]
-struct Checked {
-    answer: Answer,
-    inverse: Spectrum,
-}
-
-fn check_version(key: &[u8], version: u16, forward: &[u16], backward: &[u16]) -> Checked
+// .. whose mark and version are checked first: any other version is 3.
+fn read_version(
+    key: &[u8],
+    version: u16,
+    forward: &[u16],
+    backward: &[u16],
+) -> Result<SecretKey, Refusal>
     requires { (forward.now ≡ forward_factors) × (backward.now ≡ backward_factors) }
-    ensures answer_value { result.answer ≡ version_answer version key.now }
-    ensures inverse_value { result.inverse ≡ spectrum_of (elements_of key.now).inverse }
+    ensures { result ≡ and_then (version_answer version key.now) (Ok (spectra_of (elements_of key.now))) }
 {
-    let header = records::check_header(key, SECRET_KEY_MARK, version);
-    let read = secret_keys::read_secret_key(key, forward, backward);
-    let checked = read.answer;
-    let inverse = read.inverse;
-    Checked {
-        answer: answers::and_then(header, checked),
-        inverse,
-    }
+    records::check_header(key, SECRET_KEY_MARK, version)?;
+    secret_keys::read_secret_key(key, forward, backward)
 }
 
 // ---- expand_secret_key
@@ -64,19 +57,15 @@ pub fn expand_secret_key(key: &[u8], out: &mut [u8]) -> Answer
 {
     let fits = (HEADER_LENGTH <= key.len()) & (out.len() == EXPANDED_KEY_LENGTH);
     if !fits {
-        return Answer::Refused(Refusal::WrongLength);
+        return Err(Refusal::WrongLength);
     }
     let mut forward = [0u16; FACTORS];
     let mut backward = [0u16; FACTORS];
     ntt::forward_factors(&mut forward);
     ntt::backward_factors(&mut backward);
-    let checked = check_version(key, SECRET_KEY_VERSION, &forward, &backward);
-    let answer = checked.answer;
-    let inverse = checked.inverse;
-    if let Answer::Done = answer {
-        write_expanded(key, ntt::backward(inverse, &backward), out);
-    }
-    answer
+    let read = read_version(key, SECRET_KEY_VERSION, &forward, &backward)?;
+    write_expanded(key, ntt::backward(read.inverse, &backward), out);
+    Ok(())
 }
 
 // ---- compact_secret_key
@@ -100,16 +89,13 @@ pub fn compact_secret_key(key: &[u8], out: &mut [u8]) -> Answer
 {
     let fits = (HEADER_LENGTH <= key.len()) & (out.len() == SECRET_KEY_LENGTH);
     if !fits {
-        return Answer::Refused(Refusal::WrongLength);
+        return Err(Refusal::WrongLength);
     }
     let mut forward = [0u16; FACTORS];
     let mut backward = [0u16; FACTORS];
     ntt::forward_factors(&mut forward);
     ntt::backward_factors(&mut backward);
-    let checked = check_version(key, EXPANDED_KEY_VERSION, &forward, &backward);
-    let answer = checked.answer;
-    if let Answer::Done = answer {
-        write_compact(key, out);
-    }
-    answer
+    read_version(key, EXPANDED_KEY_VERSION, &forward, &backward)?;
+    write_compact(key, out);
+    Ok(())
 }

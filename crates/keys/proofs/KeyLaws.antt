@@ -8,8 +8,7 @@ use native.Mathlib.Omega.{arith}
 use lib.ListN.{length}
 use Rattle.ring.specs.Ring.{Invertible}
 use Rattle.sampling.specs.Stream.{taken}
-use Rattle.answers.specs.declared.Answer.TheVariants.{Done}
-use Rattle.answers.specs.Answers.{number}
+use Rattle.answers.specs.Answers.{number, Done}
 use Rattle.keys.specs.Keys.{keygen_b, generated_answer}
 use Rattle.answers.proofs.AnswerLaws.{Never, then-done, then_never, then-says, then-refuses}
 use Rattle.public_keys.specs.PublicKeys.{stream_answer}

@@ -3,8 +3,7 @@ use Rattle.std.specs.Prelude.{List, ℕ}
 use Rattle.scheme.specs.Scheme.{Triple, key_element}
 use Rattle.sampling.specs.Noise.{noise_length, ternary_noise}
 use Rattle.sampling.specs.Stream.{uniform_element}
-use Rattle.answers.specs.declared.Answer.{Answer}
-use Rattle.answers.specs.Answers.{and_then}
+use Rattle.answers.specs.Answers.{and_then, Answer}
 use Rattle.records.specs.Records.{part}
 use Rattle.public_keys.specs.PublicKeys.{stream_answer, inverse_answer}
 

@@ -2,50 +2,41 @@
 #![tactic(auto)]
 
 ghost use Rattle.std.specs.Prelude.{◌≡◌, length};
-ghost use Rattle.sampling.specs.Noise.{ternary_noise};
-ghost use Rattle.sampling.specs.Stream.{uniform_element};
 ghost use Rattle.scheme.specs.Answers as Struct;
-ghost use Rattle.keys.specs.Keys.{generated_answer, keygen_b, triple_noise_length, noise_triple};
+ghost use Rattle.answers.specs.Answers.{and_then};
+ghost use Rattle.keys.specs.Keys.{generated_answer, triple_noise_length, noise_triple};
+ghost use Rattle.keys.specs.New.{new_key};
 
-use answers::{Answer, Refusal};
+use answers::Refusal;
 use ntt::{DEGREE, Element, FACTORS};
 use sampling::NOISE_LENGTH;
 use scheme::Triple;
 
 // ---- new keys
 
-// What key generation answers, and the a, b and s that it writes under Done.
 #[derive(Clone, Copy)]
 pub struct NewKey {
-    pub answer: Answer,
     pub a: Element,
     pub b: Element,
     pub s: Element,
 }
 
-pub fn generate(stream: &[u8], s: &[u8], e: &[u8]) -> NewKey
-    ensures answer_value { result.answer ≡ generated_answer stream.now s.now e.now }
-    ensures a_value { (result.a ≡ uniform_element stream.now) × (result.b ≡ keygen_b stream.now s.now e.now) }
-    ensures s_value { result.s ≡ ternary_noise s.now }
+// From a stream and the noise of s and of e. It tries once.
+pub fn generate(stream: &[u8], s: &[u8], e: &[u8]) -> Result<NewKey, Refusal>
+    ensures { result ≡ and_then (generated_answer stream.now s.now e.now) (Ok (new_key stream.now s.now e.now)) }
 {
+    let u = sampling::uniform(stream);
+    answers::unless(u.count == DEGREE, Refusal::StreamExhausted)?;
+    let a = u.value;
+    let secret = sampling::ternary(s);
+    let noise = sampling::ternary(e);
     let mut forward = [0u16; FACTORS];
     let mut backward = [0u16; FACTORS];
     ntt::forward_factors(&mut forward);
     ntt::backward_factors(&mut backward);
-    let u = sampling::uniform(stream);
-    let enough = answers::unless(u.count == DEGREE, Refusal::StreamExhausted);
-    let a = u.value;
-    let secret = sampling::ternary(s);
-    let noise = sampling::ternary(e);
-    let g = scheme::generate(a, secret, noise, &forward, &backward);
-    let invertible = answers::unless(g.invertible, Refusal::NotInvertible);
-    let b = g.b;
-    NewKey {
-        answer: answers::and_then(enough, invertible),
-        a,
-        b,
-        s: secret,
-    }
+    let made = scheme::generate(a, secret, noise, &forward, &backward);
+    let b = made.ok_or(Refusal::NotInvertible)?;
+    Ok(NewKey { a, b, s: secret })
 }
 
 // ---- triples

@@ -1,14 +1,13 @@
--- How long the words of a location are, and how a buffer holds them.
+-- How long the words of a location are, and that there is room for them.
 use mathlib.Core.Path.{◌≡◌, refl, sym, ap, ◌∙◌}
 use mathlib.Core.List.{List, [], ◌∷◌}
 use Prim.Native.Nat.{ℕ, ◌≤◌}
 use native.Mathlib.Omega.{arith}
 use lib.Dec.{eqb}
-use lib.ListN.{length, length-append}
+use lib.ListN.{length, take, length-append}
+use lib.Seq.{take_all}
 use borrow.Author.Tests.{ne_eqb}
-use Rattle.lists.specs.Table.{zeros}
-use Rattle.text.specs.Text.{written}
-use Rattle.text.proofs.Texts.{either-most, Put, put_all}
+use Rattle.text.proofs.Texts.{either-most}
 use Rattle.text.proofs.Decimals.{length_digits}
 use Rattle.answers.specs.declared.Location.{Location}
 use Rattle.location_text.specs.Words.{public_key_name, seeded_key_name, secret_key_name, sealed_entry_name, encapsulation_name, stored_inverse_name}
@@ -41,10 +40,6 @@ some_words : (l : Location) → ¬ (l.kind ≡ 0) → location_text l ≡ locati
 unfolding location_text
 some_words l some = rw (ne_eqb l.kind 0 some) refl
 
--- names and digits that were put into a buffer are the words
-pub words-put : (l : Location) {at : ℕ} {bytes : List ℕ} → ¬ (l.kind ≡ 0) → Put (location_words l) (zeros text_length) bytes at
-    → (bytes ≡ written (location_text l) (zeros text_length)) × ((at ≡ length (location_text l)) × (at ≤ text_length))
-words-put l some p =
-    let words = sym (some_words l some) in
-    let end = put_all p (words-most l) in
-    (p.bytes ∙ ap (λ (w : List ℕ). written w (zeros text_length)) words, (end ∙ ap length words, omega (arith, end, words-most l)))
+-- there is room for the words
+pub words-put : (l : Location) → ¬ (l.kind ≡ 0) → take text_length (location_words l) ≡ location_text l
+words-put l some = take_all text_length (location_words l) (words-most l) ∙ sym (some_words l some)

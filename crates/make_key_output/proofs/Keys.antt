@@ -9,9 +9,7 @@ use lib.Seq.{take_all, length-take-le}
 use borrow.Author.Tests.{eqb-true, ne_eqb}
 use Rattle.seeds.specs.Seeds.{seed_stream}
 use Rattle.answers.specs.declared.Refusal.TheVariants.{WrongLength}
-use Rattle.answers.specs.declared.Answer.{Answer}
-use Rattle.answers.specs.declared.Answer.TheVariants.{Done, Refused}
-use Rattle.answers.specs.Answers.{on_done}
+use Rattle.answers.specs.Answers.{on_done, Answer}
 use Rattle.records.specs.Layout.{public_key_mark}
 use Rattle.records.specs.Records.{part}
 use Rattle.records.proofs.Writing.{length-record_bytes}
@@ -21,6 +19,7 @@ use Rattle.calls.specs.Calls.{seeded_keygen_answer, new_seeded_key, seeded_keyge
 use Rattle.text.specs.Text.{written}
 use Rattle.text.proofs.Texts.{written-fits, written_full}
 use Rattle.make_key_output.specs.MakeKey.{is_seeded_key, make_key_answer, public_key, secret_key}
+use Rattle.std.specs.Prelude.{Ok, Err}
 
 -- ---- lengths of the public key
 
@@ -47,8 +46,8 @@ in_all a new old size = ap (λ (l : List ℕ). on_done a l old) (sym (written_fu
 
 -- the key fills the first k bytes, which were lent
 in_front_lem : (a : Answer) (new old : List ℕ) {k : ℕ} → length new ≡ k → k ≤ length old → on_done a new (take k old) ++ drop k old ≡ on_done a (written new old) old
-in_front_lem Done new old size room = sym (written-fits new old (omega arith) ∙ rw size)
-in_front_lem (Refused r) new old {k} size room = take-append-drop k old
+in_front_lem (Ok _) new old size room = sym (written-fits new old (omega arith) ∙ rw size)
+in_front_lem (Err r) new old {k} size room = take-append-drop k old
 
 -- ---- an input with a stream: what key generation gives is what the definitions say
 
@@ -113,6 +112,6 @@ module _ (input : List ℕ) (size : length input ≡ 1056) where
 
 -- ---- an input of any other length
 
-pub other-answer : (input : List ℕ) → ¬ (length input ≡ 1056) → ¬ (length input ≡ 3712) → make_key_answer input ≡ Refused WrongLength
+pub other-answer : (input : List ℕ) → ¬ (length input ≡ 1056) → ¬ (length input ≡ 3712) → make_key_answer input ≡ Err WrongLength
 unfolding make_key_answer
 other-answer input no-seed no_stream = rw (ne_eqb (length input) 1056 no-seed, ne_eqb (length input) 3712 no_stream)

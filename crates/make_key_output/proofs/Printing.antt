@@ -6,13 +6,12 @@ use native.Mathlib.Omega.{arith}
 use lib.ListN.{length, take, drop}
 use lib.Seq.{take_all, take_at}
 use Rattle.answers.specs.declared.Refusal.{Refusal}
-use Rattle.answers.specs.declared.Answer.{Answer}
-use Rattle.answers.specs.declared.Answer.TheVariants.{Done, Refused}
-use Rattle.answers.specs.Answers.{on_done}
+use Rattle.answers.specs.Answers.{on_done, Answer, Done}
 use Rattle.text.specs.Text.{written}
 use Rattle.text.proofs.Texts.{written-fits}
 use Rattle.make_key_output.specs.MakeKey.{make_key_answer, public_key, secret_key, standard_output}
 use Rattle.make_key_output.proofs.Keys.{public-room}
+use Rattle.std.specs.Prelude.{Err}
 
 -- ---- standard output: so many bytes of each buffer
 
@@ -33,7 +32,7 @@ output-done input old {public} {secret} {p} e ep es sp ss size =
       bytes = ap₂ ◌++◌ front (take_all 4357 secret (omega arith) ∙ es) ∙ ap (λ (a : Answer). on_done a (public_key input ++ secret_key input) []) (sym e);
     }
 
-pub output_refused : (input public secret : List ℕ) {r : Refusal} → make_key_answer input ≡ Refused r → Output input public secret 0 0
+pub output_refused : (input public secret : List ℕ) {r : Refusal} → make_key_answer input ≡ Err r → Output input public secret 0 0
 unfolding standard_output
 output_refused input public secret e = record {
   public_length = (ap (λ (a : Answer). length (on_done a (public_key input) [])) (sym e), omega arith);

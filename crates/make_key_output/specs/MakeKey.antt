@@ -1,8 +1,7 @@
 -- What the program makes of its input, and what it prints.
 use Rattle.std.specs.Prelude.{Bool, cond, List, [], ◌++◌, ℕ, ◌+◌, ◌-◌, eqb, length}
 use Rattle.answers.specs.declared.Refusal.TheVariants.{WrongLength}
-use Rattle.answers.specs.declared.Answer.{Answer}
-use Rattle.answers.specs.Answers.{unless, on_done}
+use Rattle.answers.specs.Answers.{unless, on_done, Answer}
 use Rattle.records.specs.Layout.{public_key_length, seed_length, seeded_key_length, secret_key_length}
 use Rattle.records.specs.Records.{part}
 use Rattle.sampling.specs.Noise.{noise_length}

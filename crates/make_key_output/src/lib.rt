@@ -2,7 +2,6 @@
 #![tactic(auto)]
 
 ghost use Rattle.std.specs.Prelude.{◌≡◌, [], ◌++◌, ◌+◌, ◌≤◌, length, take};
-ghost use Rattle.lists.specs.Table.{zeros};
 ghost use Rattle.text.specs.Text.{written};
 ghost use Rattle.answers.specs.Answers.{on_done};
 ghost use Rattle.records.specs.Layout.{public_key_length, secret_key_length};
@@ -10,7 +9,9 @@ ghost use Rattle.make_key_output.specs.MakeKey.{input_length, seeded_input_lengt
 
 use answers::{Answer, Refusal};
 use records::{PUBLIC_KEY_LENGTH, SECRET_KEY_LENGTH, SEED_LENGTH, SEEDED_KEY_LENGTH};
+use refusal_line::LINE_LENGTH;
 use sampling::{NOISE_LENGTH, STREAM_LENGTH};
+use text::Text;
 
 // Where the noise of s and of e starts, behind the stream, and where it ends.
 const S_NOISE: usize = STREAM_LENGTH;
@@ -71,7 +72,7 @@ fn keys_of(input: &[u8], public: &mut [u8], secret: &mut [u8]) -> Answer
         return seeded_keys(input, public, secret);
     }
     if input.len() != INPUT_LENGTH {
-        return Answer::Refused(Refusal::WrongLength);
+        return Err(Refusal::WrongLength);
     }
     long_keys(input, public, secret)
 }
@@ -87,11 +88,12 @@ fn public_length(input: &[u8]) -> usize
 }
 
 // What is printed: so many bytes of each key to standard output, and a text to standard error.
-#[derive(Clone, Copy)]
+// Lengths, and no slices of the lent buffers: the contract says what the whole buffers hold, too.
+#[derive(Drop)]
 pub struct Printed {
     pub public: usize,
     pub secret: usize,
-    pub error: refusal_line::Text,
+    pub error: Text<LINE_LENGTH>,
 }
 
 // What the program does with its input.
@@ -102,12 +104,11 @@ pub fn make_key(input: &[u8], public: &mut [u8], secret: &mut [u8]) -> Printed
     ensures public_value { (result.public ≡ length (on_done (make_key_answer input.now) (public_key input.now) [])) × (result.public ≤ public_key_length) }
     ensures secret_value { (result.secret ≡ length (on_done (make_key_answer input.now) (secret_key input.now) [])) × (result.secret ≤ secret_key_length) }
     ensures secret_after_2 { take result.public public.new ++ take result.secret secret.new ≡ standard_output input.now }
-    ensures bytes_value { result.error.bytes ≡ written (standard_error input.now) (zeros 21) }
-    ensures length_value { (result.error.length ≡ length (standard_error input.now)) × (result.error.length ≤ 21) }
+    ensures error_value { result.error ≡ standard_error input.now }
 {
     let answer = keys_of(input, public, secret);
     let error = refusal_line::line(answer);
-    if let Answer::Done = answer {
+    if let Ok(()) = answer {
         return Printed {
             public: public_length(input),
             secret: SECRET_KEY_LENGTH,

@@ -10,8 +10,7 @@ use Rattle.ring.specs.Ring.{n}
 use Rattle.ring.specs.Division.{QuotientsWithin}
 use Rattle.ring.proofs.QuotientLaws.{length-quotients}
 use Rattle.margins.proofs.LargestLaws as Largest
-use Rattle.answers.specs.declared.Answer.TheVariants.{Done}
-use Rattle.answers.specs.Answers.{number}
+use Rattle.answers.specs.Answers.{number, Done}
 use Rattle.answers.specs.Locations.{code}
 use Rattle.answers.proofs.AnswerLaws.{number-done, on_done_lem, on_refusal}
 use Rattle.answers.proofs.CodeLaws.{code-done}

@@ -5,8 +5,8 @@ ghost use Rattle.std.specs.Prelude.{◌≡◌};
 ghost use Rattle.case_outputs.specs.Outputs.{filled, output};
 ghost use Rattle.margin_cases.specs.MarginCases.{margin_agrees, opened_agrees, open_margin_after, open_margin_agrees};
 
+use answers::Refusal;
 use case_outputs::FILLER;
-use margin_opening::OpenedWithMargin;
 
 // Whether the margin is the one that is told, as under 0, or none is told and there is none, as under any other number.
 fn margin_agrees(text: &[u8], margin: u32) -> bool
@@ -18,15 +18,22 @@ fn margin_agrees(text: &[u8], margin: u32) -> bool
     (vectors::field(text, 6).len() == 0) & (margin == 0)
 }
 
-fn opened_agrees(text: &[u8], opened: OpenedWithMargin, after: &[u8]) -> bool
-    ensures { result ≡ opened_agrees text.now opened.answer opened.margin after.now }
+fn opened_agrees(text: &[u8], opened: Result<u32, Refusal>, after: &[u8]) -> bool
+    ensures { result ≡ opened_agrees text.now opened after.now }
 {
-    let answer = opened.answer;
-    let margin = opened.margin;
     let told = vectors::number(text, 4);
     let words = vectors::field(text, 5);
-    case_outputs::answer_agrees(answer, told, words, vectors::field(text, 7), after)
-        & margin_agrees(text, margin)
+    let entry = vectors::field(text, 7);
+    match opened {
+        Ok(margin) => {
+            case_outputs::answer_agrees(Ok(()), told, words, entry, after)
+                & margin_agrees(text, margin)
+        }
+        Err(refusal) => {
+            case_outputs::answer_agrees(Err(refusal), told, words, entry, after)
+                & margin_agrees(text, 0)
+        }
+    }
 }
 
 fn open_margin_agrees(text: &[u8], out: &mut [u8]) -> bool

@@ -1,10 +1,12 @@
 -- Laws of the rule of the Monte files.
-use mathlib.Core.Path.{◌≡◌, ap, ◌∙◌}
-use mathlib.Core.List.{List, ◌++◌}
-use Prim.Native.Nat.{ℕ, ◌+◌, ◌-◌, ◌<◌, ◌≤◌}
+use mathlib.Core.Path.{◌≡◌, sym, ◌∙◌}
+use mathlib.Core.List.{List, ◌++◌, append-nil}
+use Prim.Native.Nat.{ℕ, ◌+◌, ◌-◌, ◌≤◌, min}
+use native.Mathlib.Decide.{dec_le}
 use native.Mathlib.Omega.{arith}
-use lib.ListN.{length, get_or, replicate, length-append, get_or-replicate, get_or-append}
-use lib.Seq.{length-take-le, get_or-take, get_or-append-add}
+use lib.ListN.{length, take, drop, replicate}
+use lib.Seq.{take_all, take-append-le, take-append-add}
+use Rattle.std.proofs.lemmas.List.{drop-replicate, take-replicate}
 use Rattle.monte_chain.specs.declared.Function.{Function}
 use Rattle.monte_chain.specs.declared.Function.TheVariants.{Shake128, Shake256}
 use Rattle.monte_chain.specs.Monte.{least_size, greatest_size, output_size, message_of}
@@ -30,20 +32,21 @@ size-most Shake256 extra = omega arith
 
 -- ---- the message that follows an output
 
-module _ (output : List ℕ) where
-  pub length_message : length (message_of output) ≡ 16
-  unfolding message_of
-  length_message = length-take-le 16 (output ++ replicate 16 0) (omega (arith, length-append output (replicate 16 0)))
+zeros-behind : (n : ℕ) → n ≤ 16 → drop {A = ℕ} n (replicate 16 0) ≡ take (16 - n) (replicate 16 0)
+zeros-behind n h = drop-replicate n 16 0 ∙ sym (take-replicate (16 - n) 16 0 (omega arith))
 
-  pub message-at : (i : ℕ) → i < 16 → i < length output → get_or (message_of output) i 0 ≡ get_or output i 0
-  unfolding message_of
-  message-at i h l = get_or-take 16 (output ++ replicate 16 0) i 0 h ∙ get_or-append output (replicate 16 0) 0 i l
-
-  pub message-zero : (i : ℕ) → i < 16 → length output ≤ i → get_or (message_of output) i 0 ≡ 0
-  unfolding message_of
-  message-zero i h l =
-      let e : i ≡ length output + (i - length output) = omega arith in
-      get_or-take 16 (output ++ replicate 16 0) i 0 h
-      ∙ ap (λ (k : ℕ). get_or (output ++ replicate 16 0) k 0) e
-      ∙ get_or-append-add output (replicate 16 0) (i - length output) 0
-      ∙ get_or-replicate 16 (i - length output) 0 0 (omega arith)
+-- n bytes of the output were copied over zeros, which is all of them that there is room for
+pub message-copied : (output : List ℕ) (n : ℕ) → n ≡ min (length output) 16 → take n output ++ drop n (replicate 16 0) ≡ message_of output
+unfolding message_of
+message-copied output n e = by (dec_le (length output) 16)
+  where
+    by : Dec (length output ≤ 16) → take n output ++ drop n (replicate 16 0) ≡ take 16 (output ++ replicate 16 0)
+    by (yes h) =
+        let size : n ≡ length output = omega (arith, e) in
+        let all : length output + (16 - length output) ≡ 16 = omega arith in
+        let whole : output ++ take (16 - length output) (replicate 16 0) ≡ take 16 (output ++ replicate 16 0) =
+        rw all at (sym (take-append-add output (replicate 16 0) (16 - length output))) in
+        rw (size, take_all (length output) output (omega arith), zeros-behind (length output) h) whole
+    by (no h) =
+        let size : n ≡ 16 = omega (arith, e, h) in
+        rw size (append-nil (take 16 output) ∙ sym (take-append-le 16 output (replicate 16 0) (omega (arith, h))))

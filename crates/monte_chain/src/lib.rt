@@ -5,6 +5,7 @@ ghost use Rattle.std.specs.Prelude.{◌≡◌, ◌+◌, ◌*◌, ◌≤◌, leng
 ghost use Rattle.monte_chain.specs.Monte.{output_of, least_size, greatest_size, output_size};
 ghost use Rattle.monte_chain.specs.Monte.{message_of, chain_of, turned, turns as Monte·turns};
 
+// The table of files in the program names the function, and definitions are by it: a closure would be no plainer.
 #[derive(Clone, Copy)]
 pub enum Function {
     Shake128,
@@ -56,23 +57,13 @@ pub fn output_size(function: Function, extra: usize) -> usize
     least + extra % sizes
 }
 
-// Two bytes as a number, the high one first.
-fn join(high: u8, low: u8) -> usize
-    ensures { result ≡ 256 * high + low }
-{
-    256 * (high as usize) + low as usize
-}
-
 // The first 16 bytes of an output, filled with zeros.
 fn next_message(output: &[u8]) -> [u8; 16]
     ensures { result ≡ message_of output.now }
 {
     let mut message = [0u8; 16];
-    let mut i = 0;
-    while i < 16 {
-        message[i] = if i < output.len() { output[i] } else { 0 };
-        i += 1;
-    }
+    let n = output.len().min(16);
+    message[..n].copy_from_slice(&output[..n]);
     message
 }
 
@@ -82,9 +73,10 @@ fn chain_of(output: &[u8]) -> Chain
     ensures { result ≡ chain_of output.now }
 {
     let n = output.len();
-    let message = next_message(output);
-    let extra = join(output[n - 2], output[n - 1]);
-    Chain { message, extra }
+    Chain {
+        message: next_message(output),
+        extra: u16::from_be_bytes([output[n - 2], output[n - 1]]) as usize,
+    }
 }
 
 // One turn of the chain. The buffer has room for the greatest output of each function.
@@ -102,11 +94,8 @@ pub fn many_turns(function: Function, c: Chain, n: usize) -> Chain
     ensures { result ≡ Monte·turns function n c }
 {
     let mut c = c;
-    let mut i = 0;
-    while i < n {
-        let next = turn(function, c);
-        c = next;
-        i += 1;
+    for _ in 0..n {
+        c = turn(function, c);
     }
     c
 }

@@ -1,12 +1,10 @@
 -- The verdict on the case that a text starts with. A case agrees only if each of its lines has its name, its number and its length, and
 -- the function under test gives the output told, from the message and at the length told. A line that is wrong in itself makes the case
 -- malformed at that line, which is named by how many bytes are left from its start on.
-use Rattle.std.specs.Prelude.{Bool, cond, List, [], ◌∷◌, ℕ, eqb, length, take}
+use Rattle.std.specs.Prelude.{Bool, cond, List, [], ◌∷◌, ℕ, eqb, length, take, Option, Some, None}
 use Rattle.hexadecimal.specs.Hex.{bytes_of, decoded, written}
 use Rattle.response_files.specs.Lines.{after_line, same, value_of}
 use Rattle.response_files.specs.Fields.{length_field, is_count, is_hex}
-use Rattle.response_files.specs.declared.Number.{Number}
-use Rattle.response_files.specs.declared.Number.TheVariants.{Value, Missing}
 use Rattle.monte_chain.specs.declared.Function.{Function}
 use Rattle.monte_chain.specs.declared.Chain.{Chain}
 use Rattle.nist_cases.specs.declared.Kind.{Kind}
@@ -75,9 +73,9 @@ judged_turn function chain size text =
     (differing (judged function chain.message size text))
 
 -- the lines that follow a length, if there is one
-abbrev pub with_length : (length : Number) (left : ℕ) → (ℕ → Verdict) → Verdict
-with_length (Value n) left judge = judge n
-with_length Missing left judge = Malformed left
+abbrev pub with_length : (length : Option ℕ) (left : ℕ) → (ℕ → Verdict) → Verdict
+with_length (Some n) left judge = judge n
+with_length None left judge = Malformed left
 
 -- the lines after `Outputlen = `, of a file whose messages have `number` bytes or come from the chain
 abbrev pub judged_output : (function : Function) (kind : Kind) (number : ℕ) (chain : Chain) (size : ℕ) (text : List ℕ) → Verdict

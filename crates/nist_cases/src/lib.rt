@@ -8,10 +8,10 @@ ghost use Rattle.nist_cases.specs.Cases.{most, agrees, judged, is_message, messa
 ghost use Rattle.nist_cases.specs.Cases.{differing, judged_turn, judged_output, judged_counted, judged_length, judged_case};
 
 use monte_chain::{Chain, Function};
-use response_files::Number;
 
 // ---- one message
 
+// Three answers on a par: as a result of a boolean they would be no plainer.
 #[derive(Clone, Copy)]
 pub enum Verdict {
     Agreed,
@@ -26,7 +26,7 @@ fn agrees_in(function: Function, message: &[u8], expected: &[u8], output: &mut [
     ensures output_after { output.new ≡ output_of function message.now (length output.old) }
 {
     monte_chain::put_output(function, message, output);
-    response_files::same(output, expected)
+    &*output == expected
 }
 
 fn agrees(function: Function, message: &[u8], expected: &[u8]) -> bool
@@ -60,7 +60,7 @@ fn read_message(digits: &[u8], bytes: usize, out: &mut [u8]) -> bool
     ensures out_after { out.new ≡ message_in bytes digits.now out.old }
 {
     if bytes == 0 {
-        return response_files::same(digits, b"00");
+        return digits == b"00".as_slice();
     }
     response_files::read_hex(digits, bytes, out)
 }
@@ -147,7 +147,7 @@ fn judge_counted_case(
         return Verdict::Malformed(text.len());
     }
     let second = response_files::after_line(text);
-    let Number::Value(size) = response_files::length_field(second, b"Outputlen = ") else {
+    let Some(size) = response_files::length_field(second, b"Outputlen = ") else {
         return Verdict::Malformed(second.len());
     };
     judge_output(
@@ -164,7 +164,7 @@ fn judge_counted_case(
 fn judge_length_case(function: Function, text: &[u8], size: usize) -> Verdict
     ensures { result ≡ judged_length function size text.now }
 {
-    let Number::Value(bytes) = response_files::length_field(text, b"Len = ") else {
+    let Some(bytes) = response_files::length_field(text, b"Len = ") else {
         return Verdict::Malformed(text.len());
     };
     judge_message(function, response_files::after_line(text), bytes, size)

@@ -7,16 +7,16 @@ use native.Mathlib.Decide.{dec_lt}
 use native.Mathlib.Omega.{arith}
 use lib.Dec.{eqb}
 use lib.ListN.{length}
-use Rattle.response_files.specs.Lines.{after_line, is_blank, lines, line_at}
+use Rattle.response_files.specs.Lines.{after_line, is_blank, lines}
 use Rattle.response_files.proofs.Lines.{lines_more, lines_none, after-within}
 use Rattle.monte_chain.specs.declared.Function.{Function}
 use Rattle.monte_chain.specs.declared.Chain.{Chain}
 use Rattle.nist_cases.specs.declared.Kind.{Kind}
 use Rattle.nist_cases.specs.declared.Verdict.TheVariants.{Agreed, Differed, Malformed}
 use Rattle.nist_cases.specs.Cases.{judged_case}
-use Rattle.vectors.specs.declared.Report.{Report}
-use Rattle.vectors.specs.declared.Report.TheVariants.{Counts, MalformedLine}
-use Rattle.nist_reports.specs.Reports.{more_lines, cases_among, after_lines, after_case, next_chain, verdicts, tally}
+use Rattle.std.specs.Prelude.{Ok}
+use Rattle.vectors.specs.Answers.{Report}
+use Rattle.nist_reports.specs.Reports.{more_lines, cases_among, after_lines, after_case, next_chain, verdicts, malformed_line, tally}
 
 -- ---- cases
 
@@ -56,7 +56,7 @@ report_from function kind number text agreed differed chain rest =
 
 module _ (function : Function) (kind : Kind) (number : ℕ) (text : List ℕ) (a d : ℕ) (chain : Chain) (rest : List ℕ) where
   pub report_end : length rest ≡ 0
-      → report_from function kind number text a d chain rest ≡ cond (eqb (a + d) 0) (MalformedLine (line_at 0 text)) (Counts a d)
+      → report_from function kind number text a d chain rest ≡ cond (eqb (a + d) 0) (malformed_line 0 text) (Ok (record { agreed = a; differed = d }))
   unfolding tally verdicts cases_among
   report_end e = rw (lines_none rest e)
 
@@ -83,6 +83,6 @@ module _ (function : Function) (kind : Kind) (number : ℕ) (text : List ℕ) (a
           rw (cases_more kind rest some e, v, n)
 
       pub report-malformed : (left : ℕ) → judged_case function kind number (a + d) chain rest ≡ Malformed left
-          → report_from function kind number text a d chain rest ≡ MalformedLine (line_at left text)
+          → report_from function kind number text a d chain rest ≡ malformed_line left text
       unfolding tally verdicts
       report-malformed left v = rw (cases_more kind rest some e, v)

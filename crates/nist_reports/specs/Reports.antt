@@ -1,5 +1,5 @@
 -- What is reported of a response file: a verdict on each of its cases, and the count of them.
-use Rattle.std.specs.Prelude.{Bool, cond, ◌&&◌, List, [], ◌∷◌, ℕ, zero, suc, ◌+◌, ◌-◌, eqb, length}
+use Rattle.std.specs.Prelude.{Bool, cond, ◌&&◌, List, [], ◌∷◌, ℕ, zero, suc, ◌+◌, ◌-◌, eqb, length, Ok, Err}
 use Rattle.lists.specs.Table.{zeros}
 use Rattle.hexadecimal.specs.Hex.{decoded, written}
 use Rattle.response_files.specs.Lines.{after_line, value_of, is_blank, lines, line_at}
@@ -13,8 +13,8 @@ use Rattle.nist_cases.specs.declared.Verdict.{Verdict}
 use Rattle.nist_cases.specs.declared.Verdict.TheVariants.{Agreed, Differed, Malformed}
 use Rattle.monte_chain.specs.Monte.{least_size, greatest_size, turns}
 use Rattle.nist_cases.specs.Cases.{message_name, judged_case}
-use Rattle.vectors.specs.declared.Report.{Report}
-use Rattle.vectors.specs.declared.Report.TheVariants.{Counts, MalformedLine}
+use Rattle.vectors.specs.declared.MalformedAt.TheVariants.{Line}
+use Rattle.vectors.specs.Answers.{Report}
 
 -- ---- the cases
 
@@ -55,13 +55,17 @@ verdicts function kind number count chain [] = []
 verdicts function kind number count chain (case ∷ cases) =
     judged_case function kind number count chain case ∷ verdicts function kind number (count + 1) (next_chain function kind chain) cases
 
+-- malformed at the line at which so many bytes of the text are left
+abbrev pub malformed_line : (left : ℕ) (text : List ℕ) → Report
+malformed_line left text = Err (Line (line_at left text))
+
 -- The report that verdicts make, after so many that agreed and that differed. The first malformed case is the report; so is the end of a
 -- text without a case.
 unfoldable pub tally : (text : List ℕ) (agreed differed : ℕ) (verdicts : List Verdict) → Report
-tally text agreed differed [] = cond (eqb (agreed + differed) 0) (MalformedLine (line_at 0 text)) (Counts agreed differed)
+tally text agreed differed [] = cond (eqb (agreed + differed) 0) (malformed_line 0 text) (Ok (record { agreed = agreed; differed = differed }))
 tally text agreed differed (Agreed ∷ rest) = tally text (agreed + 1) differed rest
 tally text agreed differed (Differed ∷ rest) = tally text agreed (differed + 1) rest
-tally text agreed differed (Malformed left ∷ rest) = MalformedLine (line_at left text)
+tally text agreed differed (Malformed left ∷ rest) = malformed_line left text
 
 -- the report on the cases of a body, by lines of the whole text
 unfoldable pub report_on : (function : Function) (kind : Kind) (number : ℕ) (chain : Chain) (text body : List ℕ) → Report
@@ -77,7 +81,7 @@ no_chain = record { message = zeros 16; extra = 0 }
 unfoldable pub report_plain : (function : Function) (kind : Kind) (name text : List ℕ) → Report
 report_plain function kind name text =
     cond (eqb (header_number name text) 0)
-    (MalformedLine (line_at (length (body text)) text))
+    (malformed_line (length (body text)) text)
     (report_on function kind (header_number name text) no_chain text (body text))
 
 -- `[Minimum Output Length (bits) = `
@@ -108,7 +112,7 @@ unfoldable pub report_monte : (function : Function) (text : List ℕ) → Report
 report_monte function text =
     cond (is_monte function text (body text))
     (report_on function Monte 0 (first_chain function (value_of message_name (body text))) text (after_line (body text)))
-    (MalformedLine (line_at (length (body text)) text))
+    (malformed_line (length (body text)) text)
 
 -- `[Outputlen = `
 abbrev pub output_length_header : List ℕ

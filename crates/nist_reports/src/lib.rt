@@ -6,7 +6,7 @@ ghost use Rattle.nist_reports.specs.Reports.{after_case, next_chain, report_on, 
 
 use monte_chain::{Chain, Function};
 use nist_cases::{Kind, Verdict};
-use vectors::Report;
+use vectors::{Counts, MalformedAt, Report};
 
 // What stands behind the lines of a case.
 fn after_case(kind: Kind, text: &[u8]) -> &[u8]
@@ -50,8 +50,7 @@ fn judge_cases(
     let mut differed = 0;
     while rest.len() > 0 {
         if response_files::is_blank(rest) {
-            let next = response_files::after_line(rest);
-            rest = next;
+            rest = response_files::after_line(rest);
         } else {
             match nist_cases::judge_case(function, kind, rest, number, agreed + differed, c) {
                 Verdict::Agreed => {
@@ -61,19 +60,20 @@ fn judge_cases(
                     differed += 1;
                 }
                 Verdict::Malformed(left) => {
-                    return Report::MalformedLine(response_files::line_number(text, left));
+                    return Err(MalformedAt::Line(response_files::line_number(text, left)));
                 }
             }
-            let chain = next_chain(function, kind, c);
-            c = chain;
-            let next = after_case(kind, rest);
-            rest = next;
+            c = next_chain(function, kind, c);
+            rest = after_case(kind, rest);
         }
     }
     if agreed + differed == 0 {
-        return Report::MalformedLine(response_files::line_number(text, 0));
+        return Err(MalformedAt::Line(response_files::line_number(text, 0)));
     }
-    Report::Counts(agreed as u64, differed as u64)
+    Ok(Counts {
+        agreed: agreed as u64,
+        differed: differed as u64,
+    })
 }
 
 fn no_chain() -> Chain
@@ -92,7 +92,7 @@ fn judge_plain(function: Function, kind: Kind, text: &[u8], name: &[u8]) -> Repo
     let body = response_files::body(text);
     let number = response_files::header_number(text, name);
     if number == 0 {
-        return Report::MalformedLine(response_files::line_number(text, body.len()));
+        return Err(MalformedAt::Line(response_files::line_number(text, body.len())));
     }
     judge_cases(function, kind, text, body, number, no_chain())
 }
@@ -131,7 +131,7 @@ fn judge_monte(function: Function, text: &[u8]) -> Report
 {
     let body = response_files::body(text);
     if !is_monte(function, text, body) {
-        return Report::MalformedLine(response_files::line_number(text, body.len()));
+        return Err(MalformedAt::Line(response_files::line_number(text, body.len())));
     }
     let chain = first_chain(function, response_files::value(body, b"Msg = "));
     judge_cases(

@@ -13,10 +13,9 @@ fn check_file(
     kind: Kind,
     name: &[u8],
 ) -> io::Result<()> {
-    let mut buffer = vectors::file_buffer();
-    let read = vectors::read_file(rt, name, &mut buffer);
-    let report = nist_reports::judge_file(function, kind, vectors::read_bytes(read, &buffer));
-    report_line::print(rt, name, read, report)
+    report_line::check_file(rt, name, |text| {
+        nist_reports::judge_file(function, kind, text)
+    })
 }
 
 fn main(rt: HostRuntime) -> io::Result<()> {

@@ -1,17 +1,15 @@
 -- What functions of src/lib.rt answer, over the bytes of a key of any length and of other records with the right lengths.
-use Rattle.std.specs.Prelude.{Bool, cond, ◌&&◌, List, ℕ, eqb, leb, ℤ, pos, length, replicate}
-use Rattle.ring.specs.Ring.{n}
+use Rattle.std.specs.Prelude.{List, ℕ, ℤ}
 use Rattle.ring.specs.Centred.{quotients}
 use Rattle.scheme.specs.Scheme.{Outcome, step2}
-use Rattle.answers.specs.declared.Answer.{Answer}
-use Rattle.records.specs.Layout.{header_length, sealed_entry_length, block_length}
 use Rattle.records.specs.Records.{first_of, second_of, c1_of, c2_of, encapsulation_answer}
 use Rattle.sealed_records.specs.Front.{sealed_front_answer}
 use Rattle.triples.specs.Triple.{triple_of, triple_answer}
 use Rattle.secret_keys.specs.SecretKeys.{secret_answer, elements_of}
-use Rattle.keys.specs.Keys.{triple_noise_length, noise_triple}
+use Rattle.keys.specs.Keys.{noise_triple}
 use Rattle.calls.specs.Calls.{outcome}
 use Rattle.recovery.specs.Outcomes.{decapsulated_by, opened_by}
+use Rattle.answers.specs.Answers.{Answer}
 
 abbrev pub decapsulated_outcome : (key encapsulation dummy : List ℕ) → Outcome
 decapsulated_outcome k c d = outcome (elements_of k) (triple_of d) (c1_of c) (c2_of c)
@@ -31,14 +29,3 @@ opened_quotients k sealed noise =
 abbrev pub sealed_answer : (key sealed : List ℕ) (version : ℕ) (between : Answer) (noise blocks tag : List ℕ) → Answer
 sealed_answer k sealed version between noise blocks tag =
     opened_by (secret_answer k) (sealed_front_answer version between sealed) (opened_outcome k sealed noise) blocks tag
-
--- ---- a sealed entry and what is lent with it, of all lengths
-
--- the lengths that `open_answer` asks for
-abbrev pub entry_fits : (key sealed noise : List ℕ) (room : ℕ) → Bool
-entry_fits k sealed noise room =
-    leb header_length (length k) && eqb (length sealed) sealed_entry_length && eqb (length noise) triple_noise_length && eqb room block_length
-
--- w beside what is answered; zeros where a length does not fit
-abbrev pub entry_quotients : (key sealed noise : List ℕ) (room : ℕ) → List ℤ
-entry_quotients k sealed noise room = cond (entry_fits k sealed noise room) (opened_quotients k sealed noise) (replicate n (pos 0))

@@ -2,23 +2,21 @@
 #![tactic(auto)]
 
 ghost use Rattle.std.specs.Prelude.{◌≡◌, ◌++◌, ◌%◌, ◌≤◌, length};
-ghost use Rattle.derivation.specs.Derivation.{under_keystream};
-ghost use Rattle.answers.specs.Answers.{number, on_done};
+ghost use Rattle.answers.specs.Answers.{number, and_then, on_done};
 ghost use Rattle.records.specs.Layout.{third_place, encapsulation_length, triple_length, block_length};
-ghost use Rattle.triples.specs.Triple.{triple_bytes};
 ghost use Rattle.keys.specs.Keys.{triple_noise_length};
 ghost use Rattle.calls.specs.Calls.{decapsulate_answer, decapsulate_out, opened_entry, open_answer, open_out};
 ghost use Rattle.calls.specs.Promises.{DecapsulateExact, OpenExact};
-ghost use Rattle.recovery.specs.Outcomes.{as_triple, answered, triple_key0};
-ghost use Rattle.opening.specs.Parts.{decapsulated_outcome, decapsulated_answer, opened_outcome, opened_quotients, sealed_answer, entry_quotients};
+ghost use Rattle.recovery.specs.Outcomes.{answered, with_parts, recovered_with};
+ghost use Rattle.opening.specs.Parts.{decapsulated_outcome, decapsulated_answer, opened_outcome, opened_quotients, sealed_answer};
 
 use answers::{Answer, Refusal};
 use encoding::HEADER_LENGTH;
 use keys::TRIPLE_NOISE_LENGTH;
-use ntt::{DEGREE, FACTORS};
+use ntt::FACTORS;
 use octets::BLOCK_LENGTH;
 use records::{ENCAPSULATION_LENGTH, SEALED_ENTRY_LENGTH, TAG, THIRD, TRIPLE_LENGTH};
-use recovery::{Decapsulated, Recovered};
+use recovery::Recovered;
 use ring::Quotients;
 use scheme::Triple;
 use sealed_records::SEALED_ENTRY_VERSION;
@@ -26,32 +24,19 @@ use sealed_records::SEALED_ENTRY_VERSION;
 // ---- decapsulate
 
 // Of an encapsulation and a dummy with the right lengths, with a key of any.
-fn decapsulate_records(key: &[u8], encapsulation: &[u8], dummy: &[u8]) -> Decapsulated
+fn decapsulate_records(key: &[u8], encapsulation: &[u8], dummy: &[u8]) -> Result<Triple, Refusal>
     requires { (length encapsulation.now ≡ encapsulation_length) × (length dummy.now ≡ triple_length) }
-    ensures answer_value { result.answer ≡ decapsulated_answer key.now encapsulation.now dummy.now }
-    ensures triple_value { as_triple result.triple ≡ answered (decapsulated_outcome key.now encapsulation.now dummy.now) }
+    ensures { result ≡ and_then (decapsulated_answer key.now encapsulation.now dummy.now) (Ok (with_parts (answered (decapsulated_outcome key.now encapsulation.now dummy.now)))) }
 {
     let mut forward = [0u16; FACTORS];
     let mut backward = [0u16; FACTORS];
     ntt::forward_factors(&mut forward);
     ntt::backward_factors(&mut backward);
-    let k = secret_keys::read_secret_key(key, &forward, &backward);
-    let c = sealed_records::read_encapsulation(encapsulation);
-    let codes = triples::check_triple(dummy);
+    let secret = secret_keys::read_secret_key(key, &forward, &backward)?;
+    let c = sealed_records::read_encapsulation(encapsulation)?;
+    triples::check_triple(dummy)?;
     let t = triples::read_triple(dummy);
-    recovery::find_triple(k, c, codes, t, &forward, &backward)
-}
-
-fn write_triple(answer: Answer, t: Triple, out: &mut [u8])
-    requires { length out.old ≡ triple_length }
-    ensures { out.new ≡ on_done answer (triple_bytes t.r t.e1 t.e2) out.old }
-{
-    if let Answer::Done = answer {
-        let r = t.r;
-        let e1 = t.e1;
-        let e2 = t.e2;
-        triples::write_triple(r, e1, e2, out);
-    }
+    recovery::find_triple(secret, c, t, &forward, &backward)
 }
 
 // The ternary (r, e1, e2) with (c1, c2) = (a × r + e1, b × r + e2), whatever the dummy. ENCAPSULATION_LENGTH bytes give TRIPLE_LENGTH.
@@ -65,13 +50,11 @@ pub fn decapsulate(key: &[u8], encapsulation: &[u8], dummy: &[u8], out: &mut [u8
         & (dummy.len() == TRIPLE_LENGTH)
         & (out.len() == TRIPLE_LENGTH);
     if !fits {
-        return Answer::Refused(Refusal::WrongLength);
+        return Err(Refusal::WrongLength);
     }
-    let d = decapsulate_records(key, encapsulation, dummy);
-    let answer = d.answer;
-    let triple = d.triple;
-    write_triple(answer, triple, out);
-    answer
+    let t = decapsulate_records(key, encapsulation, dummy)?;
+    triples::write_triple(t, out);
+    Ok(())
 }
 
 // ---- what openings of sealed entries and of batches share. `version` is the record's, and `between` what is answered between its header and
@@ -87,41 +70,22 @@ fn recover_sealed(
     front: &[u8],
     body: &[u8],
     tag: &[u8],
-) -> Recovered
+) -> Result<Recovered, Refusal>
     requires { (third_place ≤ length sealed.now) × (length noise.now ≡ triple_noise_length) × (length front.now % 16 ≡ 0) × (length tag.now ≡ block_length) }
-    ensures answer_value { result.answer ≡ sealed_answer key.now sealed.now version between noise.now (front.now ++ body.now) tag.now }
-    ensures k0_value { result.k0 ≡ triple_key0 (answered (opened_outcome key.now sealed.now noise.now)) }
-    ensures quotients_value { result.quotients ≡ opened_quotients key.now sealed.now noise.now }
+    ensures { result ≡ and_then (sealed_answer key.now sealed.now version between noise.now (front.now ++ body.now) tag.now) (Ok (recovered_with (answered (opened_outcome key.now sealed.now noise.now)) (opened_quotients key.now sealed.now noise.now))) }
 {
     let mut forward = [0u16; FACTORS];
     let mut backward = [0u16; FACTORS];
     ntt::forward_factors(&mut forward);
     ntt::backward_factors(&mut backward);
-    let k = secret_keys::read_secret_key(key, &forward, &backward);
-    let c = sealed_records::read_sealed(sealed, version, between);
+    let k = secret_keys::read_secret_key(key, &forward, &backward)?;
+    let c = sealed_records::read_sealed(sealed, version, between)?;
     let dummy = keys::noise_triple(noise);
     let t = octets::read_block(tag);
     recovery::recover(k, c, dummy, front, body, t, &forward, &backward)
 }
 
-// Shows the entry of a body, in a buffer of its length.
-fn write_entry(answer: Answer, k0: [u8; BLOCK_LENGTH], body: &[u8], out: &mut [u8])
-    requires { length body.now ≡ length out.old }
-    ensures { out.new ≡ on_done answer (under_keystream k0 body.now) out.old }
-{
-    if let Answer::Done = answer {
-        derivation::under_keystream(k0, body, out);
-    }
-}
-
-// What is answered, and beside any answer the quotients w of step 3.
-#[derive(Clone, Copy)]
-pub struct OpenedSealed {
-    pub answer: Answer,
-    pub quotients: Quotients,
-}
-
-// Shows the entry once the tag is known.
+// Shows the entry once the tag is known, in a buffer of the body's length, and gives the quotients w of step 3.
 pub fn open_sealed(
     key: &[u8],
     sealed: &[u8],
@@ -132,26 +96,26 @@ pub fn open_sealed(
     body: &[u8],
     tag: &[u8],
     out: &mut [u8],
-) -> OpenedSealed
+) -> Result<Quotients, Refusal>
     requires { (third_place ≤ length sealed.now) × (length noise.now ≡ triple_noise_length) × (length front.now % 16 ≡ 0) × (length tag.now ≡ block_length) × (length body.now ≡ length out.old) }
-    ensures answer_value { result.answer ≡ sealed_answer key.now sealed.now version between noise.now (front.now ++ body.now) tag.now }
-    ensures quotients_value { result.quotients ≡ opened_quotients key.now sealed.now noise.now }
-    ensures out_after { out.new ≡ on_done result.answer (opened_entry (opened_outcome key.now sealed.now noise.now) body.now) out.old }
+    ensures value { result ≡ and_then (sealed_answer key.now sealed.now version between noise.now (front.now ++ body.now) tag.now) (Ok (opened_quotients key.now sealed.now noise.now)) }
+    ensures out_after { out.new ≡ on_done (sealed_answer key.now sealed.now version between noise.now (front.now ++ body.now) tag.now) (opened_entry (opened_outcome key.now sealed.now noise.now) body.now) out.old }
 {
-    let r = recover_sealed(key, sealed, version, between, noise, front, body, tag);
-    let answer = r.answer;
-    let k0 = r.k0;
-    let quotients = r.quotients;
-    write_entry(answer, k0, body, out);
-    OpenedSealed { answer, quotients }
+    let r = recover_sealed(key, sealed, version, between, noise, front, body, tag)?;
+    derivation::under_keystream(r.k0, body, out);
+    Ok(r.quotients)
 }
 
 // ---- open
 
-// A sealed entry opened, with the quotients of the opening; zeros where a length does not fit.
-pub fn open_entry(key: &[u8], sealed: &[u8], noise: &[u8], out: &mut [u8]) -> OpenedSealed
-    ensures answer_value { result.answer ≡ open_answer key.now sealed.now noise.now (length out.old) }
-    ensures quotients_value { result.quotients ≡ entry_quotients key.now sealed.now noise.now (length out.old) }
+// A sealed entry opened, which gives the quotients of the opening.
+pub fn open_entry(
+    key: &[u8],
+    sealed: &[u8],
+    noise: &[u8],
+    out: &mut [u8],
+) -> Result<Quotients, Refusal>
+    ensures value { result ≡ and_then (open_answer key.now sealed.now noise.now (length out.old)) (Ok (opened_quotients key.now sealed.now noise.now)) }
     ensures out_after { out.new ≡ open_out key.now sealed.now noise.now out.old }
 {
     let fits = (HEADER_LENGTH <= key.len())
@@ -159,16 +123,13 @@ pub fn open_entry(key: &[u8], sealed: &[u8], noise: &[u8], out: &mut [u8]) -> Op
         & (noise.len() == TRIPLE_NOISE_LENGTH)
         & (out.len() == BLOCK_LENGTH);
     if !fits {
-        return OpenedSealed {
-            answer: Answer::Refused(Refusal::WrongLength),
-            quotients: [0i16; DEGREE],
-        };
+        return Err(Refusal::WrongLength);
     }
     open_sealed(
         key,
         sealed,
         SEALED_ENTRY_VERSION,
-        Answer::Done,
+        Ok(()),
         noise,
         &sealed[0..0],
         &sealed[THIRD..TAG],
@@ -184,6 +145,6 @@ pub fn open(key: &[u8], sealed: &[u8], noise: &[u8], out: &mut [u8]) -> Answer
     ensures out_after { out.new ≡ open_out key.now sealed.now noise.now out.old }
     ensures open_exact { OpenExact key.now sealed.now noise.now out.old (number result) out.new }
 {
-    let opened = open_entry(key, sealed, noise, out);
-    opened.answer
+    open_entry(key, sealed, noise, out)?;
+    Ok(())
 }

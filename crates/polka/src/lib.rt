@@ -144,10 +144,13 @@ pub extern "C" fn polka_open_batch(
     ensures count_after { count.new ≡ open_batch_count key.now batch.now noise.now (length out.old) count.old }
     ensures open_batch_exact { OpenBatchExact key.now batch.now noise.now out.old count.old result out.new count.new }
 {
-    let opened = batch_opening::open_batch(key, batch, noise, out);
-    let answer = opened.answer;
-    answers::write_value(answer, opened.count, count);
-    answers::code(answer)
+    match batch_opening::open_batch(key, batch, noise, out) {
+        Ok(m) => {
+            *count = m;
+            0
+        }
+        Err(refusal) => answers::code(Err(refusal)),
+    }
 }
 
 // The margin belongs to the desk's secret side: it tells of the secret key and of the triple, and it alone varies with the dummy.
@@ -164,10 +167,13 @@ pub extern "C" fn polka_open_with_margin(
     ensures margin_after { margin.new ≡ open_margin_out key.now sealed.now noise.now (length out.old) margin.old }
     ensures open_margin_exact { OpenMarginExact key.now sealed.now noise.now out.old margin.old result out.new margin.new }
 {
-    let opened = margin_opening::open_with_margin(key, sealed, noise, out);
-    let answer = opened.answer;
-    answers::write_value(answer, opened.margin, margin);
-    answers::code(answer)
+    match margin_opening::open_with_margin(key, sealed, noise, out) {
+        Ok(largest) => {
+            *margin = largest;
+            0
+        }
+        Err(refusal) => answers::code(Err(refusal)),
+    }
 }
 
 // SHAKE128 of `input`, as many bytes as `out` has. Both may have any length.

@@ -8,9 +8,9 @@ use Rattle.ring.specs.Ring.{n}
 use Rattle.encoding.proofs.Words.{length-element_of}
 use Rattle.sampling.proofs.Streams.{uniform_element_lem}
 use Rattle.seeds.specs.Seeds.{seed_stream, seed_element}
-use Rattle.answers.specs.declared.Answer.TheVariants.{Done}
 use Rattle.records.specs.Records.{first_of, second_of, public_front_answer, seed_of, seeded_b, seeded_record_answer}
 use Rattle.public_keys.specs.PublicKeys.{stream_answer, is_seeded_key, public_a, public_b, public_record_answer, public_stream_answer}
+use Rattle.answers.specs.Answers.{Done}
 
 -- what a test picks
 picked : {A : Type 0} {b b' : Bool} (x y : A) → b ≡ b' → cond b x y ≡ cond b' x y

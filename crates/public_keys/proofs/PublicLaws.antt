@@ -9,15 +9,17 @@ use native.Mathlib.Omega.{arith}
 use lib.Dec.{eqb}
 use lib.ListN.{length}
 use borrow.Author.Tests.{eqb-true, eq-eqb, ne_eqb}
+use Rattle.std.specs.Prelude.{Ok, ok_or}
+use Rattle.std.specs.Bool.{then_some}
 use Rattle.ring.specs.Ring.{n, Invertible}
 use Rattle.ring.specs.Invertible.{is_invertible}
 use Rattle.sampling.specs.Stream.{taken}
 use Rattle.sampling.proofs.Streams.{uniform_element_lem}
 use Rattle.seeds.specs.Seeds.{seed_stream}
+use Rattle.scheme.specs.Answers.{if_invertible}
 use Rattle.answers.specs.declared.Refusal.TheVariants as Refusal
-use Rattle.answers.specs.declared.Answer.TheVariants.{Done}
 use Rattle.answers.specs.declared.Location.{Location}
-use Rattle.answers.specs.Answers.{number, and_then}
+use Rattle.answers.specs.Answers.{number, unless, and_then, Done}
 use Rattle.answers.specs.Locations.{Names}
 use Rattle.records.specs.Layout.{public_key_mark, public_key_length, seeded_key_length}
 use Rattle.records.specs.Records.{second_of, seed_of, seeded_b}
@@ -40,6 +42,14 @@ inverse_refused b = decided-refuses (is_invertible b) Refusal.NotInvertible
 -- it says no other number
 pub inverse_never : {number : ℕ} → 0 < number → ¬ (6 ≡ number) → (b : List ℕ) → Never number (inverse_answer b)
 inverse_never some other b = unless_never (decide (is_invertible b)) Refusal.NotInvertible other (done_never some)
+
+-- what it makes of an option that is there where b has an inverse
+pub inverse_or : {A : Type 0} (b : List ℕ) (key : A) → ok_or (if_invertible b key) Refusal.NotInvertible ≡ and_then (inverse_answer b) (Ok key)
+inverse_or b key = by (decide (is_invertible b))
+  where
+    by : (t : Bool) → ok_or (then_some t key) Refusal.NotInvertible ≡ and_then (unless t Refusal.NotInvertible Done) (Ok key)
+    by true = refl
+    by false = refl
 
 -- ---- 8
 

@@ -7,9 +7,7 @@ use Rattle.ring.specs.Invertible.{is_invertible}
 use Rattle.sampling.specs.Stream.{taken}
 use Rattle.seeds.specs.Seeds.{seed_stream, seed_element}
 use Rattle.answers.specs.declared.Refusal.TheVariants as Refusal
-use Rattle.answers.specs.declared.Answer.{Answer}
-use Rattle.answers.specs.declared.Answer.TheVariants.{Done}
-use Rattle.answers.specs.Answers.{unless, and_then}
+use Rattle.answers.specs.Answers.{unless, and_then, Answer, Done}
 use Rattle.records.specs.Layout.{public_key_length, seeded_key_length}
 use Rattle.records.specs.Records.{first_of, second_of, public_front_answer, seed_of, seeded_b, seeded_record_answer}
 

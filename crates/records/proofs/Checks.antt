@@ -9,21 +9,20 @@ use Rattle.encoding.specs.Header.{has_mark, version_of}
 use Rattle.answers.specs.declared.KeyRecord.TheVariants.{SeededPublicKey}
 use Rattle.answers.specs.declared.Refusal.{Refusal}
 use Rattle.answers.specs.declared.Refusal.TheVariants.{WrongMark, WrongVersion}
-use Rattle.answers.specs.declared.Answer.{Answer}
-use Rattle.answers.specs.declared.Answer.TheVariants.{Done, Refused}
-use Rattle.answers.specs.Answers.{unless, and_then}
+use Rattle.answers.specs.Answers.{unless, and_then, Answer, Done}
 use Rattle.records.specs.Layout.{seeded_key_mark}
 use Rattle.records.specs.Records.{first_of, second_of, header_answer, b_word, place_answer, words_answer, elements_answer, record_answer, seeded_b, seeded_record_answer}
+use Rattle.std.specs.Prelude.{Err}
 
 module _ (mark : List ℕ) (version : ℕ) (bytes : List ℕ) where
   abbrev judged : Bool → Bool → Answer
   judged m v = unless m WrongMark (unless v WrongVersion Done)
 
-  pub wrong_mark : has_mark mark bytes ≡ false → Refused WrongMark ≡ header_answer mark version bytes
+  pub wrong_mark : has_mark mark bytes ≡ false → Err WrongMark ≡ header_answer mark version bytes
   unfolding header_answer
   wrong_mark m = sym (ap (λ (b : Bool). judged b (eqb (version_of bytes) version)) m)
 
-  pub wrong_version : has_mark mark bytes ≡ true → eqb (version_of bytes) version ≡ false → Refused WrongVersion ≡ header_answer mark version bytes
+  pub wrong_version : has_mark mark bytes ≡ true → eqb (version_of bytes) version ≡ false → Err WrongVersion ≡ header_answer mark version bytes
   unfolding header_answer
   wrong_version m v = sym (ap₂ judged m v)
 

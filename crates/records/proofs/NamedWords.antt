@@ -22,9 +22,8 @@ use Rattle.answers.specs.declared.EncapsulationPart.TheVariants.{C1, C2}
 use Rattle.answers.specs.declared.EncapsulationRecord.{EncapsulationRecord}
 use Rattle.answers.specs.declared.EncapsulationRecord.TheVariants.{SealedEntry, Encapsulation}
 use Rattle.answers.specs.declared.Refusal.{Refusal}
-use Rattle.answers.specs.declared.Answer.TheVariants.{Done}
 use Rattle.answers.specs.declared.Location.{Location}
-use Rattle.answers.specs.Answers.{refusal_number, unless, and_then}
+use Rattle.answers.specs.Answers.{refusal_number, unless, and_then, Done}
 use Rattle.answers.specs.Locations.{at, public_key, seeded_public_key, secret_key, sealed_entry, encapsulation, a_part, b_part, stored_inverse_part, c1_part, c2_part}
 use Rattle.answers.specs.Locations.{in_key_part, in_key, in_encapsulation_part, in_encapsulation, refusal_location, Names}
 use Rattle.answers.proofs.AnswerLaws.{then_names, names_either}

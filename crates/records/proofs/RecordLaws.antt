@@ -18,8 +18,7 @@ use Rattle.answers.specs.declared.Refusal.{Refusal}
 use Rattle.answers.specs.declared.KeyRecord.TheVariants.{PublicKey, SeededPublicKey}
 use Rattle.answers.specs.declared.EncapsulationRecord.TheVariants.{SealedEntry, Encapsulation}
 use Rattle.answers.specs.declared.Refusal.TheVariants.{WrongMark, WrongVersion, InvalidCode}
-use Rattle.answers.specs.declared.Answer.TheVariants.{Done}
-use Rattle.answers.specs.Answers.{refusal_number, unless}
+use Rattle.answers.specs.Answers.{refusal_number, unless, Done}
 use Rattle.records.specs.Layout.{public_key_mark, seeded_key_mark, sealed_entry_mark}
 use Rattle.records.specs.Records.{header_answer, a_word, b_word, c1_word, c2_word, words_answer, codes_answer, elements_answer, first_of, second_of, record_answer}
 use Rattle.records.specs.Records.{public_front_answer, sealed_entry_answer, seeded_b, seeded_record_answer, c1_of, c2_of, encapsulation_answer}

@@ -15,9 +15,7 @@ use Rattle.answers.specs.declared.EncapsulationRecord.{EncapsulationRecord}
 use Rattle.answers.specs.declared.EncapsulationRecord.TheVariants.{SealedEntry, Encapsulation}
 use Rattle.answers.specs.declared.Refusal.{Refusal}
 use Rattle.answers.specs.declared.Refusal.TheVariants.{WrongMark, WrongVersion, KeyOutOfRange, InvalidCode, EncapsulationOutOfRange}
-use Rattle.answers.specs.declared.Answer.{Answer}
-use Rattle.answers.specs.declared.Answer.TheVariants.{Done}
-use Rattle.answers.specs.Answers.{unless, and_then}
+use Rattle.answers.specs.Answers.{unless, and_then, Answer, Done}
 use Rattle.records.specs.Layout.{header_length, element_length, ternary_length, block_length, seed_length, key_body_length}
 use Rattle.records.specs.Layout.{first_place, second_place, third_place, tag_place, inverse_place, seed_place, seeded_b_place}
 use Rattle.records.specs.Layout.{public_key_mark, seeded_key_mark, secret_key_mark, sealed_entry_mark, secret_key_version, expanded_key_version}

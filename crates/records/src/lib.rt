@@ -5,10 +5,10 @@
 #![tactic(auto)]
 
 ghost use Rattle.std.specs.Prelude.{◌≡◌, ◌++◌, ◌≤◌, length, drop};
-ghost use Rattle.encoding.specs.Words.{first_unreduced};
+ghost use Rattle.answers.specs.Answers.{and_then};
 ghost use Rattle.records.specs.Layout.{public_key_length, secret_key_length, third_place};
-ghost use Rattle.records.specs.Records.{header_answer, place_answer, codes_answer, first_of, second_of, record_bytes, public_key_bytes, secret_key_bytes};
-ghost use Rattle.records.specs.Read.{places_answer, front_of};
+ghost use Rattle.records.specs.Records.{header_answer, place_answer, codes_answer, record_bytes, public_key_bytes, secret_key_bytes};
+ghost use Rattle.records.specs.Read.{places_answer, pair_of};
 
 use answers::{Answer, Refusal};
 use encoding::{ELEMENT_LENGTH, HEADER_LENGTH, MARK_LENGTH, TERNARY_LENGTH};
@@ -70,12 +70,12 @@ pub fn check_header(bytes: &[u8], mark: [u8; MARK_LENGTH], version: u16) -> Answ
     ensures { result ≡ header_answer mark version bytes.now }
 {
     if !encoding::has_mark(bytes, mark) {
-        return Answer::Refused(Refusal::WrongMark);
+        return Err(Refusal::WrongMark);
     }
     if encoding::version(bytes) != version {
-        return Answer::Refused(Refusal::WrongVersion);
+        return Err(Refusal::WrongVersion);
     }
-    Answer::Done
+    Ok(())
 }
 
 // What an element's words are answered by, from the place of its first that is q or more; `refusal` names that word.
@@ -92,13 +92,13 @@ pub struct Places {
     pub second: usize,
 }
 
-// What the words of both are answered by; `first` and `second` name the words at these places.
+// What the words of both are answered by; `first` and `second` name the words at these places. The crate that reads a record makes the names, in
+// two lines; as closures they would be no plainer.
 pub fn places_answer(unreduced: Places, first: Refusal, second: Refusal) -> Answer
     ensures { result ≡ places_answer unreduced first second }
 {
-    let one = place_answer(unreduced.first, first);
-    let other = place_answer(unreduced.second, second);
-    answers::and_then(one, other)
+    place_answer(unreduced.first, first)?;
+    place_answer(unreduced.second, second)
 }
 
 // Whether no code is 3.
@@ -124,8 +124,7 @@ pub struct Pair {
 // Those of a public key, or of the front of a secret key or of a sealed entry.
 pub fn read_pair(bytes: &[u8]) -> Pair
     requires { third_place ≤ length bytes.now }
-    ensures first_value { (result.first ≡ first_of bytes.now) × (result.second ≡ second_of bytes.now) }
-    ensures first_value_2 { (result.unreduced.first ≡ first_unreduced (first_of bytes.now)) × (result.unreduced.second ≡ first_unreduced (second_of bytes.now)) }
+    ensures { result ≡ pair_of bytes.now }
 {
     let first = encoding::decode_element(&bytes[FIRST..SECOND]);
     let second = encoding::decode_element(&bytes[SECOND..THIRD]);
@@ -139,42 +138,13 @@ pub fn read_pair(bytes: &[u8]) -> Pair
     }
 }
 
-// .. and what mark and version are answered by.
-#[derive(Clone, Copy)]
-pub struct Elements {
-    pub header: Answer,
-    pub first: Element,
-    pub second: Element,
-    pub unreduced: Places,
-}
-
-// A public key, or the front of a sealed entry.
-pub fn read_record(bytes: &[u8], mark: [u8; MARK_LENGTH], version: u16) -> Elements
+// .. behind mark and version, which are checked first: of a public key, or of the front of a sealed entry.
+pub fn read_record(bytes: &[u8], mark: [u8; MARK_LENGTH], version: u16) -> Result<Pair, Refusal>
     requires { third_place ≤ length bytes.now }
-    ensures header_value { result.header ≡ header_answer mark version bytes.now }
-    ensures first_value { (result.first ≡ first_of bytes.now) × (result.second ≡ second_of bytes.now) }
-    ensures first_value_2 { (result.unreduced.first ≡ first_unreduced (first_of bytes.now)) × (result.unreduced.second ≡ first_unreduced (second_of bytes.now)) }
+    ensures { result ≡ and_then (header_answer mark version bytes.now) (Ok (pair_of bytes.now)) }
 {
-    let read = read_pair(bytes);
-    let first = read.first;
-    let second = read.second;
-    let unreduced = read.unreduced;
-    Elements {
-        header: check_header(bytes, mark, version),
-        first,
-        second,
-        unreduced,
-    }
-}
-
-// What the checks of a record's front answer: mark, version, then words, which `first` and `second` name.
-pub fn front_answer(read: Elements, first: Refusal, second: Refusal) -> Answer
-    ensures { result ≡ front_of read first second }
-{
-    let header = read.header;
-    let unreduced = read.unreduced;
-    let words = places_answer(unreduced, first, second);
-    answers::and_then(header, words)
+    check_header(bytes, mark, version)?;
+    Ok(read_pair(bytes))
 }
 
 // ---- writers

@@ -7,14 +7,19 @@ use Rattle.ring.specs.Centred.{quotients}
 use Rattle.scheme.specs.Scheme.{Triple, Outcome, found, failed, decapsulation, step2}
 use Rattle.scheme.specs.Answers as Struct
 use Rattle.scheme.specs.declared.Triple as Declared
+use Rattle.scheme.specs.declared.Encapsulation.{Encapsulation}
+use Rattle.scheme.specs.declared.SecretKey.{SecretKey}
 use Rattle.derivation.specs.Derivation.{key0}
-use Rattle.answers.specs.declared.Answer.{Answer}
-use Rattle.answers.specs.Answers.{and_then}
-use Rattle.secret_keys.specs.declared.SecretKey.{SecretKey}
+use Rattle.answers.specs.Answers.{and_then, Answer}
 use Rattle.calls.specs.Calls.{outcome_answer, opened_answer}
+use Rattle.recovery.specs.declared.Recovered.{Recovered}
 
 abbrev pub as_triple : Declared.Triple → Triple
 as_triple t = Struct.triple_of t
+
+-- .. and back
+abbrev pub with_parts : Triple → Declared.Triple
+with_parts t = record { r = t.r; e1 = t.e1; e2 = t.e2 }
 
 -- the triple of an outcome; zeros where there is none
 abbrev pub answered : Outcome → Triple
@@ -24,13 +29,13 @@ answered failed = record { r = zeros n; e1 = zeros n; e2 = zeros n }
 -- ---- by a key that was read, of an encapsulation that was read
 
 -- what is found; the key is given by its spectra
-abbrev pub outcome_by : (key : SecretKey) (dummy : Declared.Triple) (c1 c2 : List ℕ) → Outcome
-outcome_by key dummy c1 c2 =
-    decapsulation (coefficients_of key.a) (coefficients_of key.b) (coefficients_of key.inverse) (coefficients_of key.s) (as_triple dummy) c1 c2
+abbrev pub outcome_by : (key : SecretKey) (dummy : Declared.Triple) (c : Encapsulation) → Outcome
+outcome_by key dummy c =
+    decapsulation (coefficients_of key.a) (coefficients_of key.b) (coefficients_of key.inverse) (coefficients_of key.s) (as_triple dummy) c.c1 c.c2
 
 -- w of step 3 beside it
-abbrev pub quotients_by : (key : SecretKey) (dummy : Declared.Triple) (c1 c2 : List ℕ) → List ℤ
-quotients_by key dummy c1 c2 = quotients (step2 (coefficients_of key.a) (coefficients_of key.b) (coefficients_of key.s) (as_triple dummy) c1 c2)
+abbrev pub quotients_by : (key : SecretKey) (dummy : Declared.Triple) (c : Encapsulation) → List ℤ
+quotients_by key dummy c = quotients (step2 (coefficients_of key.a) (coefficients_of key.b) (coefficients_of key.s) (as_triple dummy) c.c1 c.c2)
 
 -- 9 behind the answers to key, encapsulation and dummy
 abbrev pub decapsulated_by : (key encapsulation dummy : Answer) (o : Outcome) → Answer
@@ -43,3 +48,10 @@ opened_by key sealed o blocks tag = and_then key (and_then sealed (opened_answer
 -- K0 of a triple
 abbrev pub triple_key0 : Triple → List ℕ
 triple_key0 t = key0 t.r t.e1 t.e2
+
+abbrev pub recovered_with : Triple → (w : List ℤ) → Recovered
+recovered_with t w = record { k0 = triple_key0 t; quotients = w }
+
+-- what is given of the triple that was found
+abbrev pub recovered_by : (key : SecretKey) (dummy : Declared.Triple) (c : Encapsulation) → Recovered
+recovered_by key dummy c = recovered_with (answered (outcome_by key dummy c)) (quotients_by key dummy c)

@@ -50,9 +50,8 @@ fn line_agrees(text: &[u8]) -> bool
     ensures { result ≡ line_agrees text.now }
 {
     let line = desk_line::line(vectors::field(text, 0));
-    let bytes = line.bytes;
-    let end = line.length - 1;
-    vectors::same(&bytes[0..end], vectors::field(text, 3))
+    let line = line.as_bytes();
+    vectors::same(&line[..line.len() - 1], vectors::field(text, 3))
 }
 
 // Number, location where the case tells one, and line. The desk prints no location, so a case may tell none.
@@ -109,24 +108,13 @@ fn judge(kind: Kind, text: &[u8]) -> Verdict
 fn judge_cases(kind: Kind, text: &[u8]) -> Report
     ensures { result ≡ report (verdict kind) (last_field kind + 1) text.now }
 {
-    let fields = last_field(kind) + 1;
-    let mut report = Report::Counts(0, 0);
-    let mut at = 0;
-    while at < text.len() {
-        let next = vectors::counted(report, judge(kind, &text[at..]), at);
-        report = next;
-        at = vectors::after_case(text, at, fields);
-    }
-    report
+    vectors::judge_cases(text, last_field(kind) + 1, |case| judge(kind, case))
 }
 
 // ---- files
 
 fn check_file(rt: &(impl Files + Print), kind: Kind, name: &[u8]) -> io::Result<()> {
-    let mut buffer = vectors::file_buffer();
-    let read = vectors::read_file(rt, name, &mut buffer);
-    let report = judge_cases(kind, vectors::read_bytes(read, &buffer));
-    report_line::print(rt, name, read, report)
+    report_line::check_file(rt, name, |text| judge_cases(kind, text))
 }
 
 fn check_key_files(rt: &(impl Files + Print)) -> io::Result<()> {

@@ -1,5 +1,5 @@
 -- Words in two's complement.
-use mathlib.Core.Path.{◌≡◌, refl, sym, ap, ap₂, ◌∙◌}
+use mathlib.Core.Path.{◌≡◌, refl, sym, ap, ◌∙◌}
 use Prim.Native.Nat.{ℕ, zero, suc, ◌-◌, ◌≤◌, ◌<◌}
 use native.Mathlib.Omega.{arith}
 use mathlib.Core.Bool.{Bool, true, false, false≢true}
@@ -58,8 +58,3 @@ compared a b f g = by (eqb (of_z w32 a) (of_z w32 b)) refl (is_same_integer a b)
     by false p false q = refl
     by true p false q = sym (same_itself b) ∙ ap (λ (z : ℤ). is_same_integer z b) (sym (same_bits a b f g (eqb-true _ _ p))) ∙ q
     by false p true q = sym p ∙ eq-eqb _ _ (ap (of_z w32) (same_integer a b q))
-
--- the same of integers that went through their bits
-pub compared_as : {a b x y : ℤ} (r : Bool) → SFits w32 a → SFits w32 b → a ≡ x → b ≡ y
-    → r ≡ is_same_integer (to_z w32 (of_z w32 a)) (to_z w32 (of_z w32 b)) → r ≡ is_same_integer x y
-compared_as {a} {b} r f g p q e = e ∙ ap₂ is_same_integer (to_z-of_z w32 a f ∙ p) (to_z-of_z w32 b g ∙ q)

@@ -2,7 +2,7 @@
 #![tactic(auto)]
 
 ghost use Rattle.std.specs.Prelude.{◌≡◌};
-ghost use Rattle.remainder_cases.specs.Remainders.{signed, is_same_integer, integers_agree, remainder_agrees};
+ghost use Rattle.remainder_cases.specs.Remainders.{signed, integers_agree, remainder_agrees};
 
 // The integer that a word stands for in two's complement.
 fn signed(x: u32) -> i32
@@ -15,23 +15,15 @@ fn signed(x: u32) -> i32
     -1 - y
 }
 
-fn same_integers(a: i32, b: i32) -> bool
-    ensures { result ≡ is_same_integer a b }
-{
-    a == b
-}
-
 // Of a word, its centred value m, the remainder r and the quotient k of m.
 fn integers_agree(w: u16, m: u32, r: u32, k: u32) -> bool
     ensures { result ≡ integers_agree w m r k }
 {
     let found = ring::centred(w);
     let d = ring::centred_division(found);
-    let remainder = d.remainder;
-    let quotient = d.quotient;
-    same_integers(found as i32, signed(m))
-        & same_integers(remainder as i32, signed(r))
-        & same_integers(quotient as i32, signed(k))
+    (found as i32 == signed(m))
+        & (d.remainder as i32 == signed(r))
+        & (d.quotient as i32 == signed(k))
 }
 
 pub fn remainder_agrees(text: &[u8]) -> bool

@@ -8,21 +8,16 @@ use lib.ListN.{length, take, length-take}
 use Rattle.lists.specs.First.{first_failing}
 use Rattle.response_files.specs.Lines.{after_line, line_of, value_of, is_blank, lines}
 use Rattle.response_files.specs.Fields.{decimal_of, whole_bytes}
-use Rattle.response_files.specs.declared.Number.TheVariants.{Missing}
-use Rattle.response_files.specs.Headers.{is_remark, is_preamble, length_header, number_or, body_from, number_from}
+use Rattle.std.specs.Prelude.{None, unwrap_or}
+use Rattle.response_files.specs.Headers.{is_remark, is_preamble, length_header, body_from, number_from}
 use Rattle.response_files.proofs.Lines.{lines_more}
 use Rattle.response_files.proofs.Numbers.{decimal_none}
 
-pub remark_none : (line : List ℕ) → length line ≡ 0 → is_remark line ≡ false
-unfolding is_remark
-remark_none [] h = refl
-remark_none (c ∷ line) h = absurd (omega arith)
-
 -- a line without the name gives no number
-pub header_none : (name text : List ℕ) → length (value_of name text) ≡ 0 → length_header name text ≡ Missing
+pub header_none : (name text : List ℕ) → length (value_of name text) ≡ 0 → length_header name text ≡ None
 header_none name text h = by (value_of name text) h
   where
-    by : (v : List ℕ) → length v ≡ 0 → whole_bytes (decimal_of (take (length v - 1) v)) ≡ Missing
+    by : (v : List ℕ) → length v ≡ 0 → whole_bytes (decimal_of (take (length v - 1) v)) ≡ None
     by v e = rw (decimal_none (take (length v - 1) v) (omega (arith, length-take (length v - 1) v)))
 
 pub preamble-some : (text : List ℕ) → is_preamble text ≡ true → 0 < length text
@@ -36,7 +31,7 @@ module _ (text : List ℕ) (e : is_preamble text ≡ true) where
   body_more = rw (lines_more text (preamble-some text e), e)
 
   pub number_more : (name : List ℕ) (number : ℕ)
-      → number_from name number (lines text) ≡ number_from name (number_or (length_header name text) number) (lines (after_line text))
+      → number_from name number (lines text) ≡ number_from name (unwrap_or (length_header name text) number) (lines (after_line text))
   unfolding number_from
   number_more name number = rw (lines_more text (preamble-some text e), e)
 

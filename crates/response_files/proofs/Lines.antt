@@ -1,16 +1,18 @@
 -- Laws of lines and their parts.
-use mathlib.Core.Path.{◌≡◌, refl, sym, ap, ap₂}
-use mathlib.Core.Bool.{Bool, true, false, cond, false≢true}
+use mathlib.Core.Path.{◌≡◌, refl, sym, ap, ◌∙◌}
+use mathlib.Core.Bool.{Bool, true, false, cond, not, ◌&&◌}
 use mathlib.Core.List.{List, [], ◌∷◌}
-use Prim.Native.Nat.{ℕ, zero, suc, ◌+◌, ◌-◌, ◌<◌, ◌≤◌}
+use Prim.Native.Nat.{ℕ, suc, ◌+◌, ◌-◌, ◌<◌, ◌≤◌}
 use native.Mathlib.Numerals.{add-one}
 use native.Mathlib.Omega.{arith}
 use lib.Dec.{eqb}
-use lib.ListN.{length, get_or, take, drop, length-take, length-drop}
-use borrow.Author.Tests.{eq-eqb, ne_eqb, eqb-true, lt-ltb, le-ltb}
+use lib.ListN.{length, get_or, take, drop, length-drop}
+use borrow.Author.Tests.{eq-eqb, eqb-true, lt-ltb, le-ltb}
 use Rattle.lists.proofs.Both.{both}
+use Rattle.std.specs.Prelude.{bytes_eq, count_by}
+use Rattle.std.proofs.lemmas.List.Sums.{sum_by-cons}
 use Rattle.lists.specs.First.{first_failing}
-use Rattle.response_files.specs.Lines.{in_line, after_line, without_return, line_of, same, starts_with, value_of, lines_after, lines, feeds}
+use Rattle.response_files.specs.Lines.{in_line, after_line, without_return, line_of, lines_after, lines, feeds}
 
 -- two tests that are true of the same are one
 pub same_test : (r s : Bool) → (r ≡ true → s ≡ true) → (s ≡ true → r ≡ true) → r ≡ s
@@ -18,45 +20,35 @@ same_test true s f g = sym (f refl)
 same_test false true f g = g refl
 same_test false false f g = refl
 
--- ---- equal lists
-
-pub same_refl : (a : List ℕ) → same a a ≡ true
-unfolding same
-same_refl [] = refl
-same_refl (c ∷ a) = rw (eq-eqb c c refl, same_refl a)
-
-pub same_true : (a b : List ℕ) → same a b ≡ true → a ≡ b
-unfolding same
-same_true [] [] e = refl
-same_true [] (d ∷ b) e = absurd (false≢true e)
-same_true (c ∷ a) [] e = absurd (false≢true e)
-same_true (c ∷ a) (d ∷ b) e =
-    let (head, tail) = both (eqb c d) (same a b) e in
-    ap₂ (λ (x : ℕ) (xs : List ℕ). x ∷ xs) (eqb-true c d head) (same_true a b tail)
-
-pub same_is : (a b : List ℕ) → a ≡ b → same a b ≡ true
-same_is a b e = rw e (same_refl b)
-
-pub same_shorter : (a b : List ℕ) → length a < length b → same a b ≡ false
-same_shorter a b h = same_test (same a b) false (λ e. absurd (omega (arith, ap length (same_true a b e)))) (λ e. absurd (false≢true e))
-
-pub starts-within : (prefix text : List ℕ) → starts_with prefix text ≡ true → length prefix ≤ length text
-starts-within prefix text e = omega (arith, ap length (same_true (take (length prefix) text) prefix e), length-take (length prefix) text)
-
 -- ---- the parts of a text
 
-pub return_cut : (l : List ℕ) → get_or l (length l - 1) 0 ≡ 13 → without_return l ≡ take (length l - 1) l
-unfolding without_return
-return_cut l e = rw (eq-eqb _ 13 e)
+-- the last byte, as the list that ends a list
+last-byte : (l : List ℕ) (c : ℕ) → false ≡ eqb 0 c → bytes_eq (drop (length l - 1) l) (c ∷ []) ≡ eqb (get_or l (length l - 1) 0) c
+last-byte [] c some = some
+last-byte (x ∷ []) c some = by (eqb x c)
+  where
+    by : (b : Bool) → b && true ≡ b
+    by true = refl
+    by false = refl
+last-byte (x ∷ y ∷ l) c some = let e : suc (suc (length l)) - 1 ≡ suc (suc (length l) - 1) = omega arith in rw e (last-byte (y ∷ l) c some)
 
-pub return_kept : (l : List ℕ) → (get_or l (length l - 1) 0 ≡ 13 → ⊥) → without_return l ≡ l
-unfolding without_return
-return_kept l e = rw (ne_eqb _ 13 e)
+-- the first byte, as the list that starts a list, and the last one
+pub first-byte : (l : List ℕ) (c : ℕ) → false ≡ eqb 0 c → bytes_eq (c ∷ []) (take 1 l) ≡ eqb (get_or l 0 0) c
+first-byte [] c some = some
+first-byte (x ∷ l) c some = same_test (eqb c x && true) (eqb x c) (λ e. eq-eqb x c (sym (eqb-true c x (both (eqb c x) true e).0))) (λ e. rw (eq-eqb c x (sym (eqb-true x c e))) refl)
 
-pub return_none : (l : List ℕ) → length l ≡ 0 → without_return l ≡ l
+pub byte-last : (l : List ℕ) (c : ℕ) → false ≡ eqb 0 c → bytes_eq (c ∷ []) (drop (length l - 1) l) ≡ eqb (get_or l (length l - 1) 0) c
+byte-last [] c some = some
+byte-last (x ∷ []) c some = first-byte (x ∷ []) c some
+byte-last (x ∷ y ∷ l) c some = let e : suc (suc (length l)) - 1 ≡ suc (suc (length l) - 1) = omega arith in rw e (byte-last (y ∷ l) c some)
+
+pub return_cut : (l : List ℕ) → bytes_eq (drop (length l - 1) l) (13 ∷ []) ≡ true → take (length l - 1) l ≡ without_return l
 unfolding without_return
-return_none [] e = refl
-return_none (c ∷ l) e = absurd (omega arith)
+return_cut l e = rw (sym (last-byte l 13 refl) ∙ e)
+
+pub return_kept : (l : List ℕ) → bytes_eq (drop (length l - 1) l) (13 ∷ []) ≡ false → l ≡ without_return l
+unfolding without_return
+return_kept l e = rw (sym (last-byte l 13 refl) ∙ e)
 
 module _ (text : List ℕ) where
   pub line_there : first_failing in_line text < length text → line_of text ≡ without_return (take (first_failing in_line text) text)
@@ -66,14 +58,6 @@ module _ (text : List ℕ) where
   pub line_none : length text ≤ first_failing in_line text → line_of text ≡ []
   unfolding line_of
   line_none h = rw (le-ltb _ _ h)
-
-  pub value_there : (name : List ℕ) → starts_with name (line_of text) ≡ true → value_of name text ≡ drop (length name) (line_of text)
-  unfolding value_of
-  value_there name e = rw e
-
-  pub value_none : (name : List ℕ) → starts_with name (line_of text) ≡ false → value_of name text ≡ []
-  unfolding value_of
-  value_none name e = rw e
 
   pub after-within : length (after_line text) ≤ length text - 1
   unfolding after_line
@@ -109,28 +93,12 @@ lines_none (c ∷ text) h = absurd (omega arith)
 
 -- ---- line feeds
 
-pub feeds-within : (text : List ℕ) → feeds text ≤ length text
+pub feeds-count : (text : List ℕ) → count_by (λ c. eqb c 10) text ≡ feeds text
 unfolding feeds
-feeds-within [] = omega arith
-feeds-within (c ∷ text) = by (in_line c) (feeds-within text)
+feeds-count [] = refl
+feeds-count (c ∷ text) = sum_by-cons (λ x. cond (eqb x 10) 1 0) c text ∙ by (eqb c 10) (feeds-count text)
   where
-    by : (t : Bool) → feeds text ≤ length text → cond t (feeds text) (suc (feeds text)) ≤ suc (length text)
-    by true h = omega arith
-    by false h = omega arith
-
--- one byte more
-feeds-suc : (i : ℕ) (text : List ℕ) → i < length text
-    → feeds (take (suc i) text) ≡ cond (in_line (get_or text i 0)) (feeds (take i text)) (suc (feeds (take i text)))
-unfolding feeds
-feeds-suc i [] h = absurd (omega arith)
-feeds-suc zero (c ∷ text) h = refl
-feeds-suc (suc i) (c ∷ text) h = rw (feeds-suc i text (omega arith)) (by (in_line c) (in_line (get_or text i 0)) (feeds (take i text)))
-  where
-    by : (s t : Bool) (n : ℕ) → cond s (cond t n (suc n)) (suc (cond t n (suc n))) ≡ cond t (cond s n (suc n)) (suc (cond s n (suc n)))
-    by true t n = refl
-    by false true n = refl
-    by false false n = refl
-
-pub feeds_more : (i : ℕ) (text : List ℕ) → i < length text
-    → feeds (take (i + 1) text) ≡ cond (in_line (get_or text i 0)) (feeds (take i text)) (feeds (take i text) + 1)
-feeds_more i text h = rw (add-one i, add-one (feeds (take i text))) (feeds-suc i text h)
+    by : (t : Bool) → count_by (λ x. eqb x 10) text ≡ feeds text
+        → cond t 1 0 + count_by (λ x. eqb x 10) text ≡ cond (not t) (feeds text) (suc (feeds text))
+    by true e = omega (arith, e)
+    by false e = omega (arith, e)

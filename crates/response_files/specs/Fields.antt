@@ -1,9 +1,7 @@
 -- What the lines of a case hold: numbers in decimal, and bytes in hexadecimal.
-use Rattle.std.specs.Prelude.{Bool, false, cond, ◌&&◌, List, [], ◌∷◌, ℕ, ◌+◌, ◌-◌, ◌*◌, ◌/◌, ◌%◌, ltb, leb, eqb, length}
+use Rattle.std.specs.Prelude.{Bool, false, cond, ◌&&◌, List, [], ◌∷◌, ℕ, ◌+◌, ◌-◌, ◌*◌, ◌/◌, ◌%◌, ltb, leb, eqb, length, Option, Some, None}
 use Rattle.lists.specs.First.{first_failing}
 use Rattle.hexadecimal.specs.Hex.{is_digit}
-use Rattle.response_files.specs.declared.Number.{Number}
-use Rattle.response_files.specs.declared.Number.TheVariants.{Value, Missing}
 use Rattle.response_files.specs.Lines.{value_of}
 
 -- a digit may follow the number n: `0` to `9`, and n is small
@@ -11,27 +9,27 @@ abbrev pub grows : (n c : ℕ) → Bool
 grows n c = leb 48 c && leb c 57 && ltb n 100000000
 
 -- the number n, continued by the digits of a text
-unfoldable pub continued : (n : ℕ) (text : List ℕ) → Number
-continued n [] = Value n
-continued n (c ∷ text) = cond (grows n c) (continued (10 * n + (c - 48)) text) Missing
+unfoldable pub continued : (n : ℕ) (text : List ℕ) → Option ℕ
+continued n [] = Some n
+continued n (c ∷ text) = cond (grows n c) (continued (10 * n + (c - 48)) text) None
 
--- the number that a text of digits spells, below 1,000,000,000; Missing for any other text
-unfoldable pub decimal_of : List ℕ → Number
-decimal_of [] = Missing
+-- the number that a text of digits spells, below 1,000,000,000; None for any other text
+unfoldable pub decimal_of : List ℕ → Option ℕ
+decimal_of [] = None
 decimal_of (c ∷ text) = continued 0 (c ∷ text)
 
 -- a length in bits as whole bytes
-abbrev pub whole_bytes : Number → Number
-whole_bytes (Value n) = cond (eqb (n % 8) 0) (Value (n / 8)) Missing
-whole_bytes Missing = Missing
+abbrev pub whole_bytes : Option ℕ → Option ℕ
+whole_bytes (Some n) = cond (eqb (n % 8) 0) (Some (n / 8)) None
+whole_bytes None = None
 
 -- the length in bits that the first line gives under a name, in bytes
-abbrev pub length_field : (name text : List ℕ) → Number
+abbrev pub length_field : (name text : List ℕ) → Option ℕ
 length_field name text = whole_bytes (decimal_of (value_of name text))
 
-abbrev pub is_number : (count : ℕ) → Number → Bool
-is_number count (Value n) = eqb n count
-is_number count Missing = false
+abbrev pub is_number : (count : ℕ) → Option ℕ → Bool
+is_number count (Some n) = eqb n count
+is_number count None = false
 
 -- `COUNT = `
 abbrev pub count_name : List ℕ

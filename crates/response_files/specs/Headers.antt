@@ -1,7 +1,5 @@
 -- The lines before the first case: comments, headers and blank lines.
-use Rattle.std.specs.Prelude.{Bool, cond, ◌&&◌, ◌||◌, List, [], ◌∷◌, ℕ, ◌-◌, eqb, length, get_or, take}
-use Rattle.response_files.specs.declared.Number.{Number}
-use Rattle.response_files.specs.declared.Number.TheVariants.{Value, Missing}
+use Rattle.std.specs.Prelude.{Bool, cond, ◌&&◌, ◌||◌, List, [], ◌∷◌, ℕ, ◌-◌, eqb, length, get_or, take, Option, unwrap_or}
 use Rattle.response_files.specs.Lines.{line_of, value_of, is_blank, lines}
 use Rattle.response_files.specs.Fields.{decimal_of, whole_bytes}
 
@@ -14,12 +12,8 @@ unfoldable pub is_preamble : List ℕ → Bool
 is_preamble text = is_blank text || is_remark (line_of text)
 
 -- the length in bits that a header of this name gives, in bytes; its last byte is the bracket
-abbrev pub length_header : (name text : List ℕ) → Number
+abbrev pub length_header : (name text : List ℕ) → Option ℕ
 length_header name text = whole_bytes (decimal_of (take (length (value_of name text) - 1) (value_of name text)))
-
-abbrev pub number_or : Number → (other : ℕ) → ℕ
-number_or (Value n) other = n
-number_or Missing other = other
 
 -- the text from the first of its lines on that is not of the preamble
 unfoldable pub body_from : List (List ℕ) → List ℕ
@@ -33,7 +27,7 @@ body text = body_from (lines text)
 unfoldable pub number_from : (name : List ℕ) (number : ℕ) (lines : List (List ℕ)) → ℕ
 number_from name number [] = number
 number_from name number (line ∷ rest) =
-    cond (is_preamble line) (number_from name (number_or (length_header name line) number) rest) number
+    cond (is_preamble line) (number_from name (unwrap_or (length_header name line) number) rest) number
 
 abbrev pub header_number : (name text : List ℕ) → ℕ
 header_number name text = number_from name 0 (lines text)

@@ -1,5 +1,5 @@
 -- The lines of a response file: each ends with a line feed, before which a carriage return may stand.
-use Rattle.std.specs.Prelude.{Bool, true, false, cond, not, ◌&&◌, List, [], ◌∷◌, ℕ, suc, ◌+◌, ◌-◌, ltb, eqb, length, get_or, take, drop}
+use Rattle.std.specs.Prelude.{Bool, cond, not, ◌&&◌, List, [], ◌∷◌, ℕ, suc, ◌+◌, ◌-◌, ltb, eqb, length, get_or, take, drop, bytes_eq}
 use Rattle.lists.specs.First.{first_failing}
 
 -- c is no line feed
@@ -20,11 +20,8 @@ line_of text =
     cond (ltb (first_failing in_line text) (length text)) (without_return (take (first_failing in_line text) text)) []
 
 -- two lists are equal
-unfoldable pub same : (a b : List ℕ) → Bool
-same [] [] = true
-same [] (d ∷ b) = false
-same (c ∷ a) [] = false
-same (c ∷ a) (d ∷ b) = eqb c d && same a b
+abbrev pub same : (a b : List ℕ) → Bool
+same a b = bytes_eq a b
 
 abbrev pub starts_with : (prefix text : List ℕ) → Bool
 starts_with prefix text = same (take (length prefix) text) prefix

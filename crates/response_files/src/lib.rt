@@ -5,9 +5,9 @@
 ghost use Rattle.std.specs.Prelude.{◌≡◌, length};
 ghost use Rattle.lists.specs.First.{first_failing};
 ghost use Rattle.hexadecimal.specs.Hex.{decoded, written};
-ghost use Rattle.response_files.specs.Lines.{in_line, after_line, without_return, line_of, same, starts_with, value_of, is_blank, line_at};
+ghost use Rattle.response_files.specs.Lines.{in_line, after_line, without_return, line_of, value_of, is_blank, line_at};
 ghost use Rattle.response_files.specs.Fields.{decimal_of, whole_bytes, length_field, is_count, is_hex};
-ghost use Rattle.response_files.specs.Headers.{is_remark, is_preamble, length_header, number_or, body, header_number};
+ghost use Rattle.response_files.specs.Headers.{is_remark, is_preamble, length_header, body, header_number};
 
 // ---- lines
 
@@ -15,14 +15,7 @@ ghost use Rattle.response_files.specs.Headers.{is_remark, is_preamble, length_he
 fn line_feed(text: &[u8]) -> usize
     ensures { result ≡ first_failing in_line text.now }
 {
-    let mut i = 0;
-    while i < text.len() {
-        if text[i] == b'\n' {
-            return i;
-        }
-        i += 1;
-    }
-    i
+    text.iter().position(|c| *c == b'\n').unwrap_or(text.len())
 }
 
 // What stands behind the first line.
@@ -40,14 +33,7 @@ pub fn after_line(text: &[u8]) -> &[u8]
 fn without_return(line: &[u8]) -> &[u8]
     ensures { result.now ≡ without_return line.now }
 {
-    let n = line.len();
-    if n == 0 {
-        return line;
-    }
-    if line[n - 1] == b'\r' {
-        return &line[..n - 1];
-    }
-    line
+    line.strip_suffix(b"\r").unwrap_or(line)
 }
 
 // The first line without its end; nothing where no line feed follows.
@@ -61,103 +47,57 @@ fn first_line(text: &[u8]) -> &[u8]
     &text[0..0]
 }
 
-pub fn same(a: &[u8], b: &[u8]) -> bool
-    ensures { result ≡ same a.now b.now }
-{
-    check::same(a, b)
-}
-
-fn starts_with(text: &[u8], prefix: &[u8]) -> bool
-    ensures { result ≡ starts_with prefix.now text.now }
-{
-    let n = prefix.len();
-    if text.len() < n {
-        return false;
-    }
-    same(&text[..n], prefix)
-}
-
 // What follows the name in the first line; nothing where the line does not start with the name.
 pub fn value<'a>(text: &'a [u8], name: &[u8]) -> &'a [u8]
     ensures { result.now ≡ value_of name.now text.now }
 {
-    let line = first_line(text);
-    let n = name.len();
-    if starts_with(line, name) {
-        return &line[n..];
-    }
-    &line[0..0]
+    first_line(text).strip_prefix(name).unwrap_or(&[])
 }
 
 // Whether the first line is there and has nothing before its end.
 pub fn is_blank(text: &[u8]) -> bool
     ensures { result ≡ is_blank text.now }
 {
-    if line_feed(text) < text.len() {
-        return first_line(text).len() == 0;
-    }
-    false
+    line_feed(text) < text.len() && first_line(text).is_empty()
 }
 
 // The number of the line at which `left` bytes of the text are left.
 pub fn line_number(text: &[u8], left: usize) -> usize
     ensures { result ≡ line_at left text.now }
 {
-    let mut line = 1;
-    let mut i = 0;
-    while text.len() - i > left {
-        if text[i] == b'\n' {
-            line += 1;
-        }
-        i += 1;
-    }
-    line
+    let before = text.len().saturating_sub(left);
+    1 + text[..before].iter().filter(|c| **c == b'\n').count()
 }
 
 // ---- fields
 
-#[derive(Clone, Copy)]
-pub enum Number {
-    Value(usize),
-    Missing,
-}
-
 // The number that the digits spell, if it is below 1,000,000,000.
-fn decimal(text: &[u8]) -> Number
+fn decimal(text: &[u8]) -> Option<usize>
     ensures { result ≡ decimal_of text.now }
 {
-    if text.len() == 0 {
-        return Number::Missing;
+    if text.is_empty() {
+        return None;
     }
-    let mut n: usize = 0;
-    let mut i = 0;
-    while i < text.len() {
-        let c = text[i];
-        if c < b'0' || c > b'9' || n >= 100000000 {
-            return Number::Missing;
+    let mut n = 0;
+    for c in text {
+        if *c < b'0' || *c > b'9' || n >= 100000000 {
+            return None;
         }
-        n = 10 * n + (c - b'0') as usize;
-        i += 1;
+        n = 10 * n + (*c - b'0') as usize;
     }
-    Number::Value(n)
+    Some(n)
 }
 
 // A length in bits as whole bytes.
-fn whole_bytes(bits: Number) -> Number
+fn whole_bytes(bits: Option<usize>) -> Option<usize>
     ensures { result ≡ whole_bytes bits }
 {
-    let Number::Value(n) = bits else {
-        return Number::Missing;
-    };
-    if n % 8 == 0 {
-        Number::Value(n / 8)
-    } else {
-        Number::Missing
-    }
+    let n = bits?;
+    if n % 8 == 0 { Some(n / 8) } else { None }
 }
 
 // The length in bits that a line gives, in bytes.
-pub fn length_field(text: &[u8], name: &[u8]) -> Number
+pub fn length_field(text: &[u8], name: &[u8]) -> Option<usize>
     ensures { result ≡ length_field name.now text.now }
 {
     whole_bytes(decimal(value(text, name)))
@@ -167,10 +107,7 @@ pub fn length_field(text: &[u8], name: &[u8]) -> Number
 pub fn is_count(text: &[u8], count: usize) -> bool
     ensures { result ≡ is_count count text.now }
 {
-    let Number::Value(n) = decimal(value(text, b"COUNT = ")) else {
-        return false;
-    };
-    n == count
+    decimal(value(text, b"COUNT = ")) == Some(count)
 }
 
 // Whether the text is just size bytes in hexadecimal, one or more, for which out has room. What it starts with is decoded into out.
@@ -194,42 +131,22 @@ pub fn read_hex(text: &[u8], size: usize, out: &mut [u8]) -> bool
 fn is_remark(line: &[u8]) -> bool
     ensures { result ≡ is_remark line.now }
 {
-    let n = line.len();
-    if n == 0 {
-        return false;
-    }
-    line[0] == b'#' || (line[0] == b'[' && line[n - 1] == b']')
+    line.starts_with(b"#") || (line.starts_with(b"[") && line.ends_with(b"]"))
 }
 
 // Whether the first line is blank, a comment or a header.
 fn is_preamble(text: &[u8]) -> bool
     ensures { result ≡ is_preamble text.now }
 {
-    if is_blank(text) {
-        return true;
-    }
-    is_remark(first_line(text))
+    is_blank(text) || is_remark(first_line(text))
 }
 
 // The length in bits that a header gives, in bytes; a header ends with a bracket.
-fn length_header(text: &[u8], name: &[u8]) -> Number
+fn length_header(text: &[u8], name: &[u8]) -> Option<usize>
     ensures { result ≡ length_header name.now text.now }
 {
-    let v = value(text, name);
-    let n = v.len();
-    if n == 0 {
-        return Number::Missing;
-    }
-    whole_bytes(decimal(&v[..n - 1]))
-}
-
-fn number_or(number: Number, other: usize) -> usize
-    ensures { result ≡ number_or number other }
-{
-    match number {
-        Number::Value(n) => n,
-        Number::Missing => other,
-    }
+    let (_, digits) = value(text, name).split_last()?;
+    whole_bytes(decimal(digits))
 }
 
 // What follows the lines before the first case.
@@ -238,8 +155,7 @@ pub fn body(text: &[u8]) -> &[u8]
 {
     let mut rest = text;
     while is_preamble(rest) {
-        let next = after_line(rest);
-        rest = next;
+        rest = after_line(rest);
     }
     rest
 }
@@ -251,10 +167,8 @@ pub fn header_number(text: &[u8], name: &[u8]) -> usize
     let mut rest = text;
     let mut number = 0;
     while is_preamble(rest) {
-        let found = number_or(length_header(rest, name), number);
-        number = found;
-        let next = after_line(rest);
-        rest = next;
+        number = length_header(rest, name).unwrap_or(number);
+        rest = after_line(rest);
     }
     number
 }

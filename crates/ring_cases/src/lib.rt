@@ -32,12 +32,7 @@ fn element(text: &[u8], i: usize) -> Element
 fn same_elements(a: Element, b: Element) -> bool
     ensures { result ≡ is_same a b }
 {
-    for k in 0..DEGREE {
-        if a[k] != b[k] {
-            return false;
-        }
-    }
-    true
+    a == b
 }
 
 // ---- when a case agrees. The tables of factors are lent, so that they are made once a file.
@@ -65,9 +60,8 @@ fn inverse_agrees(text: &[u8], forward: &[u16], backward: &[u16]) -> bool
     ensures { result ≡ inverse_agrees text.now }
 {
     let found = ring::inverse_with(element(text, 0), forward, backward);
-    let value = found.value;
-    (vectors::number(text, 1) == inverse_number(found.exists))
-        & same_elements(value, element(text, 3))
+    (vectors::number(text, 1) == inverse_number(found.is_some()))
+        & same_elements(found.unwrap_or([0u16; DEGREE]), element(text, 3))
 }
 
 fn agrees(kind: Kind, text: &[u8], forward: &[u16], backward: &[u16]) -> bool
@@ -127,22 +121,6 @@ fn field_count(kind: Kind) -> usize
     }
 }
 
-fn judge_cases(kind: Kind, text: &[u8], forward: &[u16], backward: &[u16]) -> Report
-    requires { (forward.now ≡ forward_factors) × (backward.now ≡ backward_factors) }
-    ensures { result ≡ report (verdict kind) (field_count kind) text.now }
-{
-    let fields = field_count(kind);
-    let mut report = Report::Counts(0, 0);
-    let mut at = 0;
-    while at < text.len() {
-        let verdict = judge(kind, &text[at..], forward, backward);
-        let next = vectors::counted(report, verdict, at);
-        report = next;
-        at = vectors::after_case(text, at, fields);
-    }
-    report
-}
-
 pub fn judge_file(kind: Kind, text: &[u8]) -> Report
     ensures { result ≡ report (verdict kind) (field_count kind) text.now }
 {
@@ -150,5 +128,7 @@ pub fn judge_file(kind: Kind, text: &[u8]) -> Report
     let mut backward = [0u16; FACTORS];
     ntt::forward_factors(&mut forward);
     ntt::backward_factors(&mut backward);
-    judge_cases(kind, text, &forward, &backward)
+    vectors::judge_cases(text, field_count(kind), |case| {
+        judge(kind, case, &forward, &backward)
+    })
 }

@@ -19,10 +19,8 @@ fn element_agrees(stream: &[u8], public: &[u8]) -> bool
     requires { length public.now ≡ public_key_length }
     ensures { result ≡ element_agrees stream.now public.now }
 {
-    let sample = sampling::uniform(stream);
-    let a = sample.value;
     let mut bytes = [0u8; ELEMENT_LENGTH];
-    encoding::encode_element(a, &mut bytes);
+    encoding::encode_element(sampling::uniform(stream).value, &mut bytes);
     vectors::same(&bytes, &public[FIRST..SECOND])
 }
 
@@ -30,9 +28,8 @@ fn noise_agrees(noise: &[u8], secret: &[u8]) -> bool
     requires { length secret.now ≡ secret_key_length }
     ensures { result ≡ noise_agrees noise.now secret.now }
 {
-    let s = sampling::ternary(noise);
     let mut bytes = [0u8; TERNARY_LENGTH];
-    encoding::encode_ternary(s, &mut bytes);
+    encoding::encode_ternary(sampling::ternary(noise), &mut bytes);
     vectors::same(&bytes, &secret[THIRD..SECRET_KEY_LENGTH])
 }
 
@@ -40,24 +37,17 @@ fn noise_agrees(noise: &[u8], secret: &[u8]) -> bool
 fn keys_agree(stream: &[u8], noise: &[u8], public: &[u8], secret: &[u8]) -> bool
     ensures { result ≡ keys_agree stream.now noise.now public.now secret.now }
 {
-    if public.len() != PUBLIC_KEY_LENGTH {
-        return false;
-    }
-    if secret.len() != SECRET_KEY_LENGTH {
-        return false;
-    }
-    if !element_agrees(stream, public) {
-        return false;
-    }
-    noise_agrees(noise, secret)
+    public.len() == PUBLIC_KEY_LENGTH
+        && secret.len() == SECRET_KEY_LENGTH
+        && element_agrees(stream, public)
+        && noise_agrees(noise, secret)
 }
 
 // How many words of a stream are taken.
 pub fn count(stream: &[u8]) -> usize
     ensures { result ≡ length (taken stream.now) }
 {
-    let sample = sampling::uniform(stream);
-    sample.count
+    sampling::uniform(stream).count
 }
 
 fn agrees(number: u32, stream: &[u8], noise: &[u8], public: &[u8], secret: &[u8]) -> bool
@@ -110,18 +100,15 @@ fn added(c: Counts, verdict: Verdict) -> Counts
     match verdict {
         Verdict::Agreed => Counts {
             agreed: vectors::one_more(c.agreed),
-            differed: c.differed,
-            skipped: c.skipped,
+            ..c
         },
         Verdict::Differed => Counts {
-            agreed: c.agreed,
             differed: vectors::one_more(c.differed),
-            skipped: c.skipped,
+            ..c
         },
         Verdict::Malformed => Counts {
-            agreed: c.agreed,
-            differed: c.differed,
             skipped: vectors::one_more(c.skipped),
+            ..c
         },
     }
 }
@@ -129,16 +116,10 @@ fn added(c: Counts, verdict: Verdict) -> Counts
 pub fn judge_cases(text: &[u8]) -> Counts
     ensures { result ≡ counts text.now }
 {
-    let mut counts = Counts {
+    let none = Counts {
         agreed: 0,
         differed: 0,
         skipped: 0,
     };
-    let mut at = 0;
-    while at < text.len() {
-        let next = added(counts, judge(&text[at..]));
-        counts = next;
-        at = vectors::after_case(text, at, 9);
-    }
-    counts
+    vectors::tally(text, 9, none, |c, verdict, _| added(c, verdict), judge)
 }

@@ -1,8 +1,11 @@
 -- The steps of the scheme as the code takes them: through spectra.
 use mathlib.Core.Path.{◌≡◌, refl, sym, ap, ap₂, ◌∙◌}
-use mathlib.Core.Bool.{Bool, true, false, ◌&&◌, true≢false, false≢true}
+use mathlib.Core.Bool.{Bool, true, false, ◌&&◌}
 use mathlib.Core.List.{List}
 use Prim.Native.Nat.{ℕ}
+use lib.IntN.{ℤ}
+use Rattle.std.specs.Prelude.{Option}
+use Rattle.std.specs.Bool.{then_some}
 use lib.ListN.{length}
 use Rattle.exactness.specs.Scheme as AnySetting
 use Rattle.exactness.specs.Scheme.{provided}
@@ -12,7 +15,10 @@ use Rattle.ring.specs.Ring.{n, fifth, sum, difference, multiple, product}
 use Rattle.ring.proofs.RingLaws.{sum-element, difference-element, multiple-element, sum_swapped}
 use Rattle.ring.proofs.Transforms.{product_by-spectra, left_through, right_through}
 use Rattle.ring.proofs.Spectra.{difference-reduced, coefficients_through, spectrum_through, coefficients_of-sum, coefficients_of-difference, coefficients_of-multiple}
-use Rattle.scheme.specs.Scheme.{Triple, found, failed, key_error, masked, summed, phase, core, decapsulation, recovered, recovers, without_dummy, is_ternary, judged, step2}
+use Rattle.scheme.specs.declared.Triple as Struct
+use Rattle.scheme.specs.declared.Decapsulation.{Decapsulation}
+use Rattle.scheme.specs.Answers.{triple_of, answer}
+use Rattle.scheme.specs.Scheme.{Triple, Outcome, found, failed, key_error, masked, summed, phase, core, decapsulation, recovered, recovers, without_dummy, is_ternary, judged, step2}
 
 -- triples are known by their parts
 pub triple-same : {t u : Triple} → t.r ≡ u.r → t.e1 ≡ u.e1 → t.e2 ≡ u.e2 → t ≡ u
@@ -87,21 +93,23 @@ judged_by : (dummy t : Triple) (x y : Bool) → recovers t ≡ x → is_ternary 
 unfolding AnySetting.judged
 judged_by dummy t x y ex ey = ap₂ (λ (x y : Bool). provided x (provided y (found (without_dummy dummy t)))) ex ey
 
-pub judged-found : (dummy t : Triple) → recovers t && is_ternary (without_dummy dummy t) ≡ true → judged dummy t ≡ found (without_dummy dummy t)
-judged-found dummy t h = by (recovers t) (is_ternary (without_dummy dummy t)) refl refl h
-  where
-    by : (x y : Bool) → recovers t ≡ x → is_ternary (without_dummy dummy t) ≡ y → x && y ≡ true → judged dummy t ≡ found (without_dummy dummy t)
-    by true true ex ey h = judged_by dummy t true true ex ey
-    by true false ex ey h = absurd (false≢true h)
-    by false y ex ey h = absurd (false≢true h)
+-- what the code makes of both tests
+abbrev pub decapsulated : Option Struct.Triple → List ℤ → Decapsulation
+decapsulated t w = record { triple = t; quotients = w }
 
-pub judged-failed : (dummy t : Triple) → recovers t && is_ternary (without_dummy dummy t) ≡ false → judged dummy t ≡ failed
-judged-failed dummy t h = by (recovers t) (is_ternary (without_dummy dummy t)) refl refl h
+pub judged-answer : (dummy t : Triple) (u : Struct.Triple) (w : List ℤ) {b : Bool} → triple_of u ≡ without_dummy dummy t
+    → b ≡ recovers t && is_ternary (without_dummy dummy t) → decapsulated (then_some b u) w ≡ answer (judged dummy t) w
+judged-answer dummy t u w same tests =
+    ap (λ (b : Bool). decapsulated (then_some b u) w) tests ∙ by (recovers t) (is_ternary (without_dummy dummy t)) refl refl
   where
-    by : (x y : Bool) → recovers t ≡ x → is_ternary (without_dummy dummy t) ≡ y → x && y ≡ false → judged dummy t ≡ failed
-    by true true ex ey h = absurd (true≢false h)
-    by true false ex ey h = judged_by dummy t true false ex ey
-    by false y ex ey h = judged_by dummy t false y ex ey
+    by : (x y : Bool) → recovers t ≡ x → is_ternary (without_dummy dummy t) ≡ y
+        → decapsulated (then_some (recovers t && is_ternary (without_dummy dummy t)) u) w ≡ answer (judged dummy t) w
+    by x y ex ey = ap₂ (λ (x y : Bool). decapsulated (then_some (x && y) u) w) ex ey ∙ at x y ∙ sym (ap (λ (o : Outcome). answer o w) (judged_by dummy t x y ex ey))
+      where
+        at : (x y : Bool) → decapsulated (then_some (x && y) u) w ≡ answer (provided x (provided y (found (without_dummy dummy t)))) w
+        at true true = ap (λ (x : Triple). answer (found x) w) same
+        at true false = refl
+        at false y = refl
 
 -- ---- a key that went through its spectra and back is the same key: its elements stand only in products
 

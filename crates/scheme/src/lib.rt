@@ -3,35 +3,35 @@
 #![tactic(auto)]
 
 ghost use Rattle.std.specs.Prelude.{◌≡◌};
-ghost use Rattle.std.proofs.Math.Bool.{decide};
 ghost use Rattle.ntt.specs.Spectrum.{spectrum_of, coefficients_of};
 ghost use Rattle.ntt.specs.Factors.{forward_factors, backward_factors};
-ghost use Rattle.ring.specs.Invertible.{is_invertible};
 ghost use Rattle.ring.specs.Centred.{quotients, is_within};
 ghost use Rattle.scheme.specs.Scheme.{key_element, key_error, masked, summed, phase, recovered, recovers, without_dummy, is_ternary, judged, core, decapsulation, step2};
-ghost use Rattle.scheme.specs.Answers.{triple_of, answer};
+ghost use Rattle.scheme.specs.Answers.{triple_of, if_invertible, public_key, answer};
 
 use ntt::{DEGREE, Element, Spectrum};
 use ring::Quotients;
 
 // ---- keys
 
-// The b of a new key, and whether it has an inverse.
+// A public key: the spectra of a and b.
 #[derive(Clone, Copy)]
-pub struct Generated {
-    pub b: Element,
-    pub invertible: bool,
-}
-
-// A public key prepared: the spectra of a and b, and whether b has an inverse.
-#[derive(Clone, Copy)]
-pub struct PreparedPublicKey {
+pub struct PublicKey {
     pub a: Spectrum,
     pub b: Spectrum,
-    pub invertible: bool,
 }
 
-// The spectra of a secret key's a, b and s, and whether b = 5 (a × s + e) for a ternary e.
+// A secret key: the spectra of a, b, s and of the inverse of b.
+#[derive(Clone, Copy)]
+pub struct SecretKey {
+    pub a: Spectrum,
+    pub b: Spectrum,
+    pub s: Spectrum,
+    pub inverse: Spectrum,
+}
+
+// The spectra of a secret key's a, b and s, and whether b = 5 (a × s + e) for a ternary e. The spectra stand beside a mismatch too: 6, that b has
+// no inverse, comes before 7.
 #[derive(Clone, Copy)]
 pub struct CheckedKey {
     pub a: Spectrum,
@@ -40,31 +40,34 @@ pub struct CheckedKey {
     pub matches: bool,
 }
 
-// Key generation from a, s and e. It tries once.
-pub fn generate(a: Element, s: Element, e: Element, forward: &[u16], backward: &[u16]) -> Generated
+// Key generation from a, s and e, which tries once: the b of the new key, if it has an inverse.
+pub fn generate(
+    a: Element,
+    s: Element,
+    e: Element,
+    forward: &[u16],
+    backward: &[u16],
+) -> Option<Element>
     requires { (forward.now ≡ forward_factors) × (backward.now ≡ backward_factors) }
-    ensures { (result.b ≡ key_element a s e) × (result.invertible ≡ decide (is_invertible (key_element a s e))) }
+    ensures { result ≡ if_invertible (key_element a s e) (key_element a s e) }
 {
     let b = ring::multiple(5, ring::sum(ring::product_with(a, s, forward, backward), e));
     let zero = ring::has_zero(ntt::forward(b, forward));
-    Generated {
-        b,
-        invertible: !zero,
-    }
+    (!zero).then_some(b)
 }
 
-pub fn public_key(a: Element, b: Element, forward: &[u16]) -> PreparedPublicKey
+// A public key prepared, if its b has an inverse.
+pub fn public_key(a: Element, b: Element, forward: &[u16]) -> Option<PublicKey>
     requires { forward.now ≡ forward_factors }
-    ensures { (result.a ≡ spectrum_of a) × (result.b ≡ spectrum_of b) × (result.invertible ≡ decide (is_invertible b)) }
+    ensures { result ≡ if_invertible b (public_key a b) }
 {
     let a_spectrum = ntt::forward(a, forward);
     let b_spectrum = ntt::forward(b, forward);
     let zero = ring::has_zero(b_spectrum);
-    PreparedPublicKey {
+    (!zero).then_some(PublicKey {
         a: a_spectrum,
         b: b_spectrum,
-        invertible: !zero,
-    }
+    })
 }
 
 // b ÷ 5 - a × s, the e of a sound key, from the spectra of a and s; 35,636 is the reciprocal of 5.
@@ -117,32 +120,22 @@ pub struct Encapsulation {
 }
 
 // a × r + e1 and b × r + e2.
-pub fn encapsulate(
-    a: Spectrum,
-    b: Spectrum,
-    t: Triple,
-    forward: &[u16],
-    backward: &[u16],
-) -> Encapsulation
+pub fn encapsulate(key: PublicKey, t: Triple, forward: &[u16], backward: &[u16]) -> Encapsulation
     requires { (forward.now ≡ forward_factors) × (backward.now ≡ backward_factors) }
-    ensures { (result.c1 ≡ masked (coefficients_of a) t.r t.e1) × (result.c2 ≡ masked (coefficients_of b) t.r t.e2) }
+    ensures { (result.c1 ≡ masked (coefficients_of key.a) t.r t.e1) × (result.c2 ≡ masked (coefficients_of key.b) t.r t.e2) }
 {
-    let r = t.r;
-    let e1 = t.e1;
-    let e2 = t.e2;
-    let r_spectrum = ntt::forward(r, forward);
-    let c1 = ring::sum(ring::product_of_spectra(a, r_spectrum, backward), e1);
-    let c2 = ring::sum(ring::product_of_spectra(b, r_spectrum, backward), e2);
+    let r_spectrum = ntt::forward(t.r, forward);
+    let c1 = ring::sum(ring::product_of_spectra(key.a, r_spectrum, backward), t.e1);
+    let c2 = ring::sum(ring::product_of_spectra(key.b, r_spectrum, backward), t.e2);
     Encapsulation { c1, c2 }
 }
 
 // ---- decapsulation, by the steps of document 01
 
-// Whether a triple was found, and the triple, zeros where none was; beside either the quotients w of step 3, m = E2 + 5 × w.
+// The triple, if one was found, and in either case the quotients w of step 3, m = E2 + 5 × w.
 #[derive(Clone, Copy)]
 pub struct Decapsulation {
-    pub found: bool,
-    pub triple: Triple,
+    pub triple: Option<Triple>,
     pub quotients: Quotients,
 }
 
@@ -159,14 +152,9 @@ pub fn add_dummy(a: Spectrum, b: Spectrum, dummy: Triple, c: Encapsulation, forw
     ensures first_value { result.first ≡ spectrum_of (summed (coefficients_of a) dummy.r dummy.e1 c.c1) }
     ensures second_value { result.second ≡ spectrum_of (summed (coefficients_of b) dummy.r dummy.e2 c.c2) }
 {
-    let r = dummy.r;
-    let e1 = dummy.e1;
-    let e2 = dummy.e2;
-    let c1 = c.c1;
-    let c2 = c.c2;
-    let r_spectrum = ntt::forward(r, forward);
-    let rest1 = ntt::forward(ring::sum(c1, e1), forward);
-    let rest2 = ntt::forward(ring::sum(c2, e2), forward);
+    let r_spectrum = ntt::forward(dummy.r, forward);
+    let rest1 = ntt::forward(ring::sum(c.c1, dummy.e1), forward);
+    let rest2 = ntt::forward(ring::sum(c.c2, dummy.e2), forward);
     Sums {
         first: ring::sum(ntt::pointwise(a, r_spectrum), rest1),
         second: ring::sum(ntt::pointwise(b, r_spectrum), rest2),
@@ -196,11 +184,9 @@ pub fn recover(
     requires { (forward.now ≡ forward_factors) × (backward.now ≡ backward_factors) }
     ensures { triple_of result ≡ recovered (coefficients_of a) (coefficients_of inverse) (coefficients_of sums.first) (coefficients_of sums.second) e2 }
 {
-    let first = sums.first;
-    let second = sums.second;
-    let rest = ring::difference(second, ntt::forward(e2, forward));
+    let rest = ring::difference(sums.second, ntt::forward(e2, forward));
     let r_spectrum = ntt::pointwise(rest, inverse);
-    let e1_spectrum = ring::difference(first, ntt::pointwise(a, r_spectrum));
+    let e1_spectrum = ring::difference(sums.first, ntt::pointwise(a, r_spectrum));
     Triple {
         r: ntt::backward(r_spectrum, backward),
         e1: ntt::backward(e1_spectrum, backward),
@@ -212,10 +198,8 @@ pub fn recover(
 pub fn recovers(t: Triple) -> bool
     ensures { result ≡ recovers (triple_of t) }
 {
-    let r = t.r;
-    let e1 = t.e1;
-    let r_within = ring::is_within(r, 2);
-    let e1_within = ring::is_within(e1, 2);
+    let r_within = ring::is_within(t.r, 2);
+    let e1_within = ring::is_within(t.e1, 2);
     r_within & e1_within
 }
 
@@ -223,16 +207,10 @@ pub fn recovers(t: Triple) -> bool
 pub fn subtract_dummy(dummy: Triple, t: Triple) -> Triple
     ensures { triple_of result ≡ without_dummy (triple_of dummy) (triple_of t) }
 {
-    let r = t.r;
-    let e1 = t.e1;
-    let e2 = t.e2;
-    let dummy_r = dummy.r;
-    let dummy_e1 = dummy.e1;
-    let dummy_e2 = dummy.e2;
     Triple {
-        r: ring::difference(r, dummy_r),
-        e1: ring::difference(e1, dummy_e1),
-        e2: ring::difference(e2, dummy_e2),
+        r: ring::difference(t.r, dummy.r),
+        e1: ring::difference(t.e1, dummy.e1),
+        e2: ring::difference(t.e2, dummy.e2),
     }
 }
 
@@ -240,12 +218,9 @@ pub fn subtract_dummy(dummy: Triple, t: Triple) -> Triple
 pub fn is_ternary(t: Triple) -> bool
     ensures { result ≡ is_ternary (triple_of t) }
 {
-    let r = t.r;
-    let e1 = t.e1;
-    let e2 = t.e2;
-    let r_ternary = ring::is_within(r, 1);
-    let e1_ternary = ring::is_within(e1, 1);
-    let e2_ternary = ring::is_within(e2, 1);
+    let r_ternary = ring::is_within(t.r, 1);
+    let e1_ternary = ring::is_within(t.e1, 1);
+    let e2_ternary = ring::is_within(t.e2, 1);
     r_ternary & e1_ternary & e2_ternary
 }
 
@@ -256,20 +231,9 @@ pub fn judge(dummy: Triple, t: Triple, w: Quotients) -> Decapsulation
     let recovered = recovers(t);
     let u = subtract_dummy(dummy, t);
     let ternary = is_ternary(u);
-    if recovered & ternary {
-        return Decapsulation {
-            found: true,
-            triple: u,
-            quotients: w,
-        };
-    }
+    let found = recovered & ternary;
     Decapsulation {
-        found: false,
-        triple: Triple {
-            r: [0u16; DEGREE],
-            e1: [0u16; DEGREE],
-            e2: [0u16; DEGREE],
-        },
+        triple: found.then_some(u),
         quotients: w,
     }
 }
@@ -287,29 +251,23 @@ pub fn core(
     requires { (forward.now ≡ forward_factors) × (backward.now ≡ backward_factors) }
     ensures { result ≡ answer (core (coefficients_of a) (coefficients_of inverse) (triple_of dummy) (coefficients_of sums.first) (coefficients_of sums.second) (coefficients_of product)) (quotients (phase (coefficients_of sums.second) (coefficients_of product))) }
 {
-    let second = sums.second;
-    let d = ring::divide_by_5(phase(second, product, backward));
-    let e2 = d.remainders;
-    let w = d.quotients;
-    judge(dummy, recover(a, inverse, sums, e2, forward, backward), w)
+    let d = ring::divide_by_5(phase(sums.second, product, backward));
+    let t = recover(a, inverse, sums, d.remainders, forward, backward);
+    judge(dummy, t, d.quotients)
 }
 
-// Decapsulation with a dummy, by the spectra of a, b, s and of the inverse of b.
+// Decapsulation with a dummy.
 pub fn decapsulate(
-    a: Spectrum,
-    b: Spectrum,
-    s: Spectrum,
-    inverse: Spectrum,
+    key: SecretKey,
     dummy: Triple,
     c: Encapsulation,
     forward: &[u16],
     backward: &[u16],
 ) -> Decapsulation
     requires { (forward.now ≡ forward_factors) × (backward.now ≡ backward_factors) }
-    ensures { result ≡ answer (decapsulation (coefficients_of a) (coefficients_of b) (coefficients_of inverse) (coefficients_of s) (triple_of dummy) c.c1 c.c2) (quotients (step2 (coefficients_of a) (coefficients_of b) (coefficients_of s) (triple_of dummy) c.c1 c.c2)) }
+    ensures { result ≡ answer (decapsulation (coefficients_of key.a) (coefficients_of key.b) (coefficients_of key.inverse) (coefficients_of key.s) (triple_of dummy) c.c1 c.c2) (quotients (step2 (coefficients_of key.a) (coefficients_of key.b) (coefficients_of key.s) (triple_of dummy) c.c1 c.c2)) }
 {
-    let sums = add_dummy(a, b, dummy, c, forward);
-    let first = sums.first;
-    let product = ntt::pointwise(first, s);
-    core(a, inverse, dummy, sums, product, forward, backward)
+    let sums = add_dummy(key.a, key.b, dummy, c, forward);
+    let product = ntt::pointwise(sums.first, key.s);
+    core(key.a, key.inverse, dummy, sums, product, forward, backward)
 }

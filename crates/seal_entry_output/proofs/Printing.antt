@@ -10,11 +10,10 @@ use lib.Seq.{take_all}
 use borrow.Author.Tests.{eqb-true}
 use Rattle.answers.specs.declared.Refusal.{Refusal}
 use Rattle.answers.specs.declared.Refusal.TheVariants.{WrongLength}
-use Rattle.answers.specs.declared.Answer.{Answer}
-use Rattle.answers.specs.declared.Answer.TheVariants.{Done, Refused}
-use Rattle.answers.specs.Answers.{unless, on_done}
+use Rattle.answers.specs.Answers.{unless, on_done, Answer, Done}
 use Rattle.calls.specs.Calls.{seal_answer}
 use Rattle.seal_entry_output.specs.SealEntry.{is_input_length, key_length, key_part, noise_part, entry_part, seal_entry_answer, sealed_entry, standard_output}
+use Rattle.std.specs.Prelude.{Err}
 
 pub answer_by_length : (input : List ℕ) {fits : Bool} → is_input_length (length input) ≡ fits
     → seal_entry_answer input ≡ unless fits WrongLength (seal_answer (key_part input) (noise_part input) (entry_part input) 4133)
@@ -54,7 +53,7 @@ output-done input {sealed} e es size =
     let same = es ∙ ap (λ (a : Answer). on_done a (sealed_entry input) []) (sym e) in
     record { size = (sym size ∙ ap length same, omega arith); bytes = take_all 4133 sealed (omega arith) ∙ same }
 
-pub output_refused : (input sealed : List ℕ) {r : Refusal} → seal_entry_answer input ≡ Refused r → Output input sealed 0
+pub output_refused : (input sealed : List ℕ) {r : Refusal} → seal_entry_answer input ≡ Err r → Output input sealed 0
 unfolding standard_output
 output_refused input sealed e =
     let none = ap (λ (a : Answer). on_done a (sealed_entry input) []) (sym e) in

@@ -1,8 +1,7 @@
 -- What the program makes of its input, and what it prints.
 use Rattle.std.specs.Prelude.{Bool, ◌||◌, List, [], ℕ, ◌+◌, ◌-◌, eqb, length}
 use Rattle.answers.specs.declared.Refusal.TheVariants.{WrongLength}
-use Rattle.answers.specs.declared.Answer.{Answer}
-use Rattle.answers.specs.Answers.{unless, on_done}
+use Rattle.answers.specs.Answers.{unless, on_done, Answer}
 use Rattle.records.specs.Layout.{sealed_entry_length, block_length}
 use Rattle.records.specs.Records.{part}
 use Rattle.keys.specs.Keys.{triple_noise_length}

@@ -2,8 +2,6 @@
 #![tactic(auto)]
 
 ghost use Rattle.std.specs.Prelude.{◌≡◌, ◌≤◌, length, take};
-ghost use Rattle.lists.specs.Table.{zeros};
-ghost use Rattle.text.specs.Text.{written};
 ghost use Rattle.answers.specs.Answers.{on_done};
 ghost use Rattle.records.specs.Layout.{sealed_entry_length};
 ghost use Rattle.calls.specs.Calls.{seal_answer, seal_out};
@@ -13,6 +11,8 @@ use answers::{Answer, Refusal};
 use keys::TRIPLE_NOISE_LENGTH;
 use octets::BLOCK_LENGTH;
 use records::{PUBLIC_KEY_LENGTH, SEALED_ENTRY_LENGTH, SEEDED_KEY_LENGTH};
+use refusal_line::LINE_LENGTH;
+use text::Text;
 
 // The noise and the entry, which stand behind the public key.
 const BEHIND_KEY: usize = TRIPLE_NOISE_LENGTH + BLOCK_LENGTH;
@@ -51,16 +51,17 @@ fn sealed_of(input: &[u8], sealed: &mut [u8]) -> Answer
     ensures sealed_after { sealed.new ≡ on_done result (sealed_entry input.now) sealed.old }
 {
     if !is_input_length(input.len()) {
-        return Answer::Refused(Refusal::WrongLength);
+        return Err(Refusal::WrongLength);
     }
     seal_parts(input, sealed)
 }
 
 // What is printed: so many bytes of the sealed entry to standard output, and a text to standard error.
-#[derive(Clone, Copy)]
+// Lengths, and no slices of the lent buffers: the contract says what the whole buffers hold, too.
+#[derive(Drop)]
 pub struct Printed {
     pub sealed: usize,
-    pub error: refusal_line::Text,
+    pub error: Text<LINE_LENGTH>,
 }
 
 // What the program does with its input.
@@ -69,12 +70,11 @@ pub fn seal_entry(input: &[u8], sealed: &mut [u8]) -> Printed
     ensures sealed_after { sealed.new ≡ on_done (seal_entry_answer input.now) (sealed_entry input.now) sealed.old }
     ensures sealed_value { (result.sealed ≡ length (standard_output input.now)) × (result.sealed ≤ sealed_entry_length) }
     ensures sealed_after_2 { take result.sealed sealed.new ≡ standard_output input.now }
-    ensures bytes_value { result.error.bytes ≡ written (standard_error input.now) (zeros 21) }
-    ensures length_value { (result.error.length ≡ length (standard_error input.now)) × (result.error.length ≤ 21) }
+    ensures error_value { result.error ≡ standard_error input.now }
 {
     let answer = sealed_of(input, sealed);
     let error = refusal_line::line(answer);
-    if let Answer::Done = answer {
+    if let Ok(()) = answer {
         return Printed {
             sealed: SEALED_ENTRY_LENGTH,
             error,

@@ -18,9 +18,8 @@ use Rattle.encoding.specs.Header.{has_mark, version_of}
 use Rattle.encoding.proofs.Words.{length-element_of}
 use Rattle.answers.specs.declared.KeyRecord.TheVariants.{SecretKey}
 use Rattle.answers.specs.declared.Refusal.TheVariants.{WrongLength, WrongMark, WrongVersion, KeyMismatch, InverseMismatch}
-use Rattle.answers.specs.declared.Answer.TheVariants.{Done}
 use Rattle.answers.specs.declared.Location.{Location}
-use Rattle.answers.specs.Answers.{number}
+use Rattle.answers.specs.Answers.{number, Done}
 use Rattle.answers.specs.Locations.{secret_key, a_part, b_part, stored_inverse_part, Names}
 use Rattle.records.specs.Layout.{secret_key_mark, secret_key_version, expanded_key_version, secret_key_length}
 use Rattle.records.specs.Records.{first_of, second_of, secret_of, stored_inverse, a_word, b_word, inverse_word, elements_answer}

@@ -11,12 +11,12 @@ use Rattle.scheme.specs.Scheme.{setting}
 use Rattle.scheme.proofs.Exactness.{sound-key}
 use Rattle.encoding.proofs.Words.{length-element_of}
 use Rattle.encoding.proofs.Codes.{ternary_of-ternary}
-use Rattle.answers.specs.declared.Answer.TheVariants.{Done}
 use Rattle.records.specs.Records.{first_of, second_of, secret_of, stored_inverse}
 use Rattle.answers.proofs.AnswerLaws.{on_done_lem}
 use Rattle.secret_keys.specs.SecretKeys.{is_expanded, inverse_in, parts_of, no_elements, elements_of, secret_answer}
 use Rattle.secret_keys.specs.WellFormed.{WellFormedAs, UnitAs}
 use Rattle.secret_keys.proofs.SecretLaws.{passes, secret-done, second-words}
+use Rattle.answers.specs.Answers.{Done}
 
 module _ (k : List ℕ) where
   pub elements_of_lem : (expanded : Bool) → WellFormedAs expanded k → elements_of k ≡ parts_of expanded k

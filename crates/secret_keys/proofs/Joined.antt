@@ -1,126 +1,120 @@
--- What the functions join and read, in the words of specs/SecretKeys.
+-- What is read of a key, in the words of specs/SecretKeys.
 use mathlib.Core.Path.{◌≡◌, refl, sym, ap, ap₂, ◌∙◌}
-use mathlib.Core.Bool.{Bool, false, true, not, ◌||◌}
+use mathlib.Core.Bool.{Bool, false, true, decide}
 use mathlib.Core.List.{List}
 use Prim.Native.Nat.{ℕ}
 use lib.Dec.{eqb}
-use lib.ListN.{length}
 use borrow.Author.Tests.{eq-eqb, ne_eqb}
-use Rattle.lists.specs.Table.{zeros}
-use Rattle.ring.specs.Ring.{n}
-use Rattle.ring.specs.Reciprocals.{has_zero}
-use Rattle.ring.proofs.Transforms.{spectrum_of-zeros, zero_decides}
+use Rattle.std.specs.Prelude.{Result, Ok, Err}
 use Rattle.ntt.specs.Spectrum.{spectrum_of}
-use Rattle.encoding.specs.Words.{first_unreduced}
-use Rattle.encoding.specs.Header.{has_mark, version_of}
+use Rattle.ring.specs.Invertible.{is_invertible, is_inverse}
+use Rattle.ring.proofs.Transforms.{zero_decides, inverse-spectrum}
+use Rattle.ring.proofs.Inverses.{inverse_through}
+use Rattle.encoding.specs.Header.{version_of}
 use Rattle.encoding.proofs.Words.{length-element_of}
-use Rattle.answers.specs.declared.KeyRecord.TheVariants.{SecretKey}
 use Rattle.answers.specs.declared.Refusal.{Refusal}
-use Rattle.answers.specs.declared.Refusal.TheVariants.{WrongLength, WrongMark, WrongVersion, NotInvertible}
-use Rattle.answers.specs.declared.Answer.{Answer}
-use Rattle.answers.specs.declared.Answer.TheVariants.{Done, Refused}
-use Rattle.answers.specs.Answers.{unless, and_then, on_done}
-use Rattle.records.specs.Layout.{secret_key_mark, secret_key_version, expanded_key_version}
-use Rattle.records.specs.Records.{first_of, second_of, codes_part, secret_of, stored_inverse, a_word, b_word, inverse_word, place_answer, words_answer, elements_answer, codes_answer}
+use Rattle.answers.specs.declared.Refusal.TheVariants.{NotInvertible, KeyMismatch, InverseMismatch}
+use Rattle.answers.specs.Answers.{unless, and_then, Answer, Done}
 use Rattle.answers.proofs.AnswerLaws.{unless-then, then_passed, then-failed, on_done_lem}
-use Rattle.secret_keys.specs.SecretKeys.{is_expanded, length_of, layout_answer, KeyElements, inverse_in, parts_of, no_elements, elements_of}
-use Rattle.secret_keys.specs.SecretKeys.{stored_words_answer, secret_words_answer, unit_answer, match_answer, content_answer, secret_answer}
+use Rattle.records.specs.Layout.{expanded_key_version}
+use Rattle.records.specs.Records.{first_of, second_of, secret_of, stored_inverse, codes_part, codes_answer}
+use Rattle.ring.specs.Centred.{is_within}
+use Rattle.scheme.specs.Scheme.{key_error}
+use Rattle.scheme.specs.declared.SecretKey.{SecretKey}
+use Rattle.secret_keys.specs.declared.Parts.{Parts}
+use Rattle.lists.proofs.Equal.{ap₃}
+use Rattle.secret_keys.specs.SecretKeys.{is_expanded, layout_answer, inverse_in, parts_of, no_elements, elements_of}
+use Rattle.secret_keys.specs.SecretKeys.{secret_words_answer, unit_answer, match_answer, content_answer, secret_answer}
+use Rattle.secret_keys.specs.Read.{stored_in, parts_in, parts_answer, inverse_by, inverse_answer, spectra_of}
 
--- ---- answers
-
-pub layout_joined : (k : List ℕ)
-    → and_then (unless (has_mark secret_key_mark k) WrongMark Done)
-    (and_then (unless (eqb (version_of k) secret_key_version || is_expanded k) WrongVersion Done) (unless (eqb (length k) (length_of (is_expanded k))) WrongLength Done))
-    ≡ layout_answer k
-unfolding layout_answer
-layout_joined k =
-    unless-then (has_mark secret_key_mark k) WrongMark _
-    ∙ ap (unless (has_mark secret_key_mark k) WrongMark) (unless-then (eqb (version_of k) secret_key_version || is_expanded k) WrongVersion _)
-
--- the words of a stored inverse, from the place of the first that is q or more
-pub stored-words : (k : List ℕ) {words : Answer} {at : ℕ} → at ≡ first_unreduced (stored_inverse k) → words ≡ place_answer at (inverse_word at)
-    → words ≡ stored_words_answer true k
-unfolding stored_words_answer words_answer
-stored-words k e w = w ∙ ap (λ (j : ℕ). place_answer j (inverse_word j)) e
-
--- what is answered to the inverse of b, in the version that the record has
+-- the version that was looked at
 module _ (k : List ℕ) where
-  pub unit_as : (expanded : Bool) {words answer : Answer} → is_expanded k ≡ expanded → words ≡ stored_words_answer expanded k → answer ≡ unit_answer expanded k
-      → (words ≡ stored_words_answer (is_expanded k) k) × (answer ≡ unit_answer (is_expanded k) k)
-  unit_as expanded kind w a = (w ∙ ap (λ (x : Bool). stored_words_answer x k) (sym kind), a ∙ ap (λ (x : Bool). unit_answer x k) (sym kind))
-
-  -- version 1, from the spectrum of b
-  pub unit-plain : {b : List ℕ} {answer : Answer} → is_expanded k ≡ false → b ≡ spectrum_of (second_of k) → answer ≡ unless (not (has_zero b)) NotInvertible Done
-      → (Done ≡ stored_words_answer (is_expanded k) k) × (answer ≡ unit_answer (is_expanded k) k)
-  unfolding stored_words_answer unit_answer
-  unit-plain kind e says =
-      unit_as false kind refl
-      (says ∙ ap (λ (t : Bool). unless t NotInvertible Done) (ap (λ (v : List ℕ). not (has_zero v)) e ∙ zero_decides (second_of k) (length-element_of _)))
-
-  pub inverse_as : (expanded : Bool) {inverse : List ℕ} → is_expanded k ≡ expanded → inverse ≡ spectrum_of (inverse_in expanded k) → inverse ≡ spectrum_of (inverse_in (is_expanded k) k)
-  inverse_as expanded kind e = e ∙ ap (λ (x : Bool). spectrum_of (inverse_in x k)) (sym kind)
-
--- all of them, in order
-pub content_joined : (k : List ℕ) (expanded : Bool) {pair stored words codes unit matches all : Answer}
-    → pair ≡ elements_answer (a_word SecretKey) (b_word SecretKey) (first_of k) (second_of k) → stored ≡ stored_words_answer expanded k → words ≡ and_then pair stored
-    → codes ≡ codes_answer (codes_part k) → unit ≡ unit_answer expanded k → matches ≡ match_answer k
-    → all ≡ and_then words (and_then codes (and_then unit matches)) → all ≡ content_answer expanded k
-unfolding secret_words_answer content_answer
-content_joined k expanded p t w c u m a = a ∙ ap₂ and_then (w ∙ ap₂ and_then p t) (ap₂ and_then c (ap₂ and_then u m))
-
--- ---- what was read
-
--- what the reader answers, and its spectra
-abbrev pub Read : (k : List ℕ) (answer : Answer) (a b s inverse : List ℕ) → Type 0
-Read k answer a b s inverse =
-    (answer ≡ secret_answer k)
-    × ((a ≡ spectrum_of (elements_of k).a) × (b ≡ spectrum_of (elements_of k).b) × (s ≡ spectrum_of (elements_of k).s) × (inverse ≡ spectrum_of (elements_of k).inverse))
-
-module _ (k : List ℕ) where
-  -- the version that was looked at
   pub expanded_by : {v : ℕ} → v ≡ version_of k → v ≡ expanded_key_version → is_expanded k ≡ true
   expanded_by {v} e same = ap (λ (w : ℕ). eqb w expanded_key_version) (sym e) ∙ eq-eqb v expanded_key_version same
 
   pub plain_by : {v : ℕ} → v ≡ version_of k → ¬ (v ≡ expanded_key_version) → is_expanded k ≡ false
   plain_by {v} e other = ap (λ (w : ℕ). eqb w expanded_key_version) (sym e) ∙ ne_eqb v expanded_key_version other
 
-  -- what is answered to a record whose mark, version and length pass, and to any other
-  pub says_as : (expanded : Bool) {answer : Answer} → is_expanded k ≡ expanded → layout_answer k ≡ Done → answer ≡ content_answer expanded k → answer ≡ secret_answer k
-  unfolding secret_answer
-  says_as expanded kind layout says = says ∙ ap (λ (x : Bool). content_answer x k) (sym kind) ∙ sym (then_passed _ layout)
+-- ---- the inverse of b, by the spectrum of b
 
-  pub says_refused : {answer : Answer} {r : Refusal} → answer ≡ layout_answer k → answer ≡ Refused r → answer ≡ secret_answer k
-  unfolding secret_answer
-  says_refused says refused = refused ∙ sym (then-failed _ (sym says ∙ refused))
+pub inverse-read : (expanded : Bool) (k : List ℕ)
+    → inverse_by (stored_in expanded k) (spectrum_of (second_of k)) ≡ and_then (unit_answer expanded k) (Ok (spectrum_of (inverse_in expanded k)))
+unfolding unit_answer
+inverse-read false k =
+    let size = length-element_of _ in
+    let give : Bool → List ℕ → Result (List ℕ) Refusal = λ t x. unless t NotInvertible (Ok x) in
+    ap₂ give (zero_decides (second_of k) size) (inverse-spectrum (second_of k) size) ∙ sym (unless-then (decide (is_invertible (second_of k))) NotInvertible (Ok (spectrum_of (inverse_in false k))))
+inverse-read true k =
+    let give : Bool → Result (List ℕ) Refusal = λ t. unless t InverseMismatch (Ok (spectrum_of (stored_inverse k))) in
+    ap give (inverse_through (second_of k) (stored_inverse k) (length-element_of _) (length-element_of _)) ∙ sym (unless-then (decide (is_inverse (second_of k) (stored_inverse k))) InverseMismatch (Ok (spectrum_of (stored_inverse k))))
 
-  -- of a record whose mark, version and length pass
-  pub read_as : (expanded : Bool) {answer : Answer} {a b s inverse : List ℕ} → is_expanded k ≡ expanded → layout_answer k ≡ Done
-      → answer ≡ content_answer expanded k → (a ≡ spectrum_of (first_of k)) × (b ≡ spectrum_of (second_of k)) × (s ≡ spectrum_of (secret_of k))
-      → inverse ≡ spectrum_of (inverse_in expanded k) → Read k answer a b s inverse
-  unfolding elements_of
-  read_as expanded kind layout says (ea, eb, es) ei =
-      let parts : elements_of k ≡ parts_of expanded k = on_done_lem (parts_of (is_expanded k) k) no_elements layout ∙ ap (λ (x : Bool). parts_of x k) kind in (
-        says_as expanded kind layout says,
-        (
-          ea ∙ ap (λ (p : KeyElements). spectrum_of p.a) (sym parts),
-          eb ∙ ap (λ (p : KeyElements). spectrum_of p.b) (sym parts),
-          es ∙ ap (λ (p : KeyElements). spectrum_of p.s) (sym parts),
-          ei ∙ ap (λ (p : KeyElements). spectrum_of p.inverse) (sym parts),
-        ),
-      )
+pub inverse-answered : (expanded : Bool) (k : List ℕ) → inverse_answer (stored_in expanded k) (spectrum_of (second_of k)) ≡ unit_answer expanded k
+unfolding unit_answer
+inverse-answered false k = ap (λ (t : Bool). unless t NotInvertible Done) (zero_decides (second_of k) (length-element_of _))
+inverse-answered true k =
+    ap (λ (t : Bool). unless t InverseMismatch Done) (inverse_through (second_of k) (stored_inverse k) (length-element_of _) (length-element_of _))
 
-  -- of any other
-  pub read_nothing : {answer : Answer} {r : Refusal} → answer ≡ layout_answer k → answer ≡ Refused r
-      → Read k answer (zeros n) (zeros n) (zeros n) (zeros n)
-  unfolding elements_of
-  read_nothing says refused =
-      let layout = sym says ∙ refused in
-      let none : elements_of k ≡ no_elements = ap (λ (a : Answer). on_done a (parts_of (is_expanded k) k) no_elements) layout in (
-        says_refused says refused,
-        (
-          sym (ap (λ (p : KeyElements). spectrum_of p.a) none ∙ spectrum_of-zeros),
-          sym (ap (λ (p : KeyElements). spectrum_of p.b) none ∙ spectrum_of-zeros),
-          sym (ap (λ (p : KeyElements). spectrum_of p.s) none ∙ spectrum_of-zeros),
-          sym (ap (λ (p : KeyElements). spectrum_of p.inverse) none ∙ spectrum_of-zeros),
-        ),
-      )
+-- ---- the key
+
+-- its checks, as they are made
+pub then-assoc : (a b c : Answer) → and_then (and_then a b) c ≡ and_then a (and_then b c)
+then-assoc (Ok _) b c = refl
+then-assoc (Err r) b c = refl
+
+pub secret-in_parts : (k : List ℕ) → secret_answer k
+    ≡ and_then (layout_answer k) (and_then (parts_answer (is_expanded k) k) (and_then (unit_answer (is_expanded k) k) (match_answer k)))
+unfolding secret_answer content_answer parts_answer
+secret-in_parts k = ap (and_then (layout_answer k)) (sym (then-assoc (secret_words_answer (is_expanded k) k) (codes_answer (codes_part k)) (and_then (unit_answer (is_expanded k) k) (match_answer k))))
+
+pub elements-read : (k : List ℕ) → layout_answer k ≡ Done → elements_of k ≡ parts_of (is_expanded k) k
+unfolding elements_of
+elements-read k layout = on_done_lem (parts_of (is_expanded k) k) no_elements layout
+
+abbrev key_with : (a b s inverse : List ℕ) → SecretKey
+key_with a b s inverse = record { a = a; b = b; s = s; inverse = inverse }
+
+-- what is answered, by the first check that refuses
+module _ (k : List ℕ) where
+  pub layout-refused : {r : Refusal} → layout_answer k ≡ Err r → secret_answer k ≡ Err r
+  layout-refused layout = secret-in_parts k ∙ then-failed (and_then (parts_answer (is_expanded k) k) (and_then (unit_answer (is_expanded k) k) (match_answer k))) layout
+
+  behind_layout : layout_answer k ≡ Done
+      → secret_answer k ≡ and_then (parts_answer (is_expanded k) k) (and_then (unit_answer (is_expanded k) k) (match_answer k))
+  behind_layout layout = secret-in_parts k ∙ then_passed (and_then (parts_answer (is_expanded k) k) (and_then (unit_answer (is_expanded k) k) (match_answer k))) layout
+
+  pub parts-refused : {r : Refusal} → layout_answer k ≡ Done → parts_answer (is_expanded k) k ≡ Err r → secret_answer k ≡ Err r
+  parts-refused layout parts = behind_layout layout ∙ then-failed (and_then (unit_answer (is_expanded k) k) (match_answer k)) parts
+
+  behind-parts : layout_answer k ≡ Done → parts_answer (is_expanded k) k ≡ Done → secret_answer k ≡ and_then (unit_answer (is_expanded k) k) (match_answer k)
+  behind-parts layout parts = behind_layout layout ∙ then_passed (and_then (unit_answer (is_expanded k) k) (match_answer k)) parts
+
+  pub unit-refused : {r : Refusal} → layout_answer k ≡ Done → parts_answer (is_expanded k) k ≡ Done → unit_answer (is_expanded k) k ≡ Err r → secret_answer k ≡ Err r
+  unit-refused layout parts unit = behind-parts layout parts ∙ then-failed (match_answer k) unit
+
+  pub matched : layout_answer k ≡ Done → parts_answer (is_expanded k) k ≡ Done → unit_answer (is_expanded k) k ≡ Done → secret_answer k ≡ match_answer k
+  matched layout parts unit = behind-parts layout parts ∙ then_passed (match_answer k) unit
+
+  -- the parts that were read, and what is made of them
+  module _ {parts : Parts} (read : parts ≡ parts_in (is_expanded k) k) {b : List ℕ} (through : b ≡ spectrum_of parts.b) where
+    pub inverse-by : inverse_by parts.stored b ≡ and_then (unit_answer (is_expanded k) k) (Ok (spectrum_of (inverse_in (is_expanded k) k)))
+    inverse-by =
+        ap (inverse_by parts.stored) through ∙ ap (λ (p : Parts). inverse_by p.stored (spectrum_of p.b)) read ∙ inverse-read (is_expanded k) k
+
+    pub inverse-said : inverse_answer parts.stored b ≡ unit_answer (is_expanded k) k
+    inverse-said =
+        ap (inverse_answer parts.stored) through ∙ ap (λ (p : Parts). inverse_answer p.stored (spectrum_of p.b)) read ∙ inverse-answered (is_expanded k) k
+
+  pub matches-said : {parts : Parts} {t : Bool} → parts ≡ parts_in (is_expanded k) k → t ≡ is_within 1 (key_error parts.a parts.b parts.s)
+      → unless t KeyMismatch Done ≡ match_answer k
+  unfolding match_answer
+  matches-said read e =
+      ap (λ (t : Bool). unless t KeyMismatch Done) (e ∙ ap (λ (p : Parts). is_within 1 (key_error p.a p.b p.s)) read)
+
+  pub spectra-read : {parts : Parts} {a b s inverse : List ℕ} → layout_answer k ≡ Done → parts ≡ parts_in (is_expanded k) k
+      → (a ≡ spectrum_of parts.a) × (b ≡ spectrum_of parts.b) × (s ≡ spectrum_of parts.s) → inverse ≡ spectrum_of (inverse_in (is_expanded k) k)
+      → key_with a b s inverse ≡ spectra_of (elements_of k)
+  spectra-read {inverse = inverse} layout read (ea, eb, es) ei =
+      ap₃ (λ (x y z : List ℕ). key_with x y z inverse) ea eb es
+      ∙ ap (λ (p : Parts). key_with (spectrum_of p.a) (spectrum_of p.b) (spectrum_of p.s) inverse) read
+      ∙ ap (key_with (spectrum_of (first_of k)) (spectrum_of (second_of k)) (spectrum_of (secret_of k))) ei
+      ∙ ap spectra_of (sym (elements-read k layout))

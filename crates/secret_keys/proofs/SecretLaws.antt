@@ -7,9 +7,8 @@ use mathlib.Core.List.{List}
 use Prim.Native.Nat.{ℕ, ◌<◌}
 use native.Mathlib.Omega.{arith}
 use Rattle.ring.specs.Ring.{Element, Invertible}
-use Rattle.answers.specs.declared.Answer.TheVariants.{Done}
 use Rattle.answers.specs.declared.Location.{Location}
-use Rattle.answers.specs.Answers.{number, and_then}
+use Rattle.answers.specs.Answers.{number, and_then, Done}
 use Rattle.answers.specs.Locations.{Names}
 use Rattle.records.specs.Records.{second_of, codes_part, codes_answer}
 use Rattle.records.specs.WellFormed.{WellFormedKey, WellFormedExpandedKey}

@@ -7,9 +7,8 @@ use mathlib.Core.List.{List}
 use Prim.Native.Nat.{ℕ}
 use native.Mathlib.Omega.{arith}
 use Rattle.encoding.specs.Header.{has_mark, version_of}
-use Rattle.answers.specs.declared.Answer.TheVariants.{Done}
 use Rattle.answers.specs.declared.Location.{Location}
-use Rattle.answers.specs.Answers.{number}
+use Rattle.answers.specs.Answers.{number, Done}
 use Rattle.answers.specs.Locations.{Names}
 use Rattle.records.specs.Layout.{secret_key_mark}
 use Rattle.answers.proofs.AnswerLaws.{Never, then-done, then_never, then-says, then_names}

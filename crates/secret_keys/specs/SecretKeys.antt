@@ -10,9 +10,7 @@ use Rattle.scheme.specs.Scheme.{key_error}
 use Rattle.encoding.specs.Header.{has_mark, version_of}
 use Rattle.answers.specs.declared.KeyRecord.TheVariants.{SecretKey}
 use Rattle.answers.specs.declared.Refusal.TheVariants.{WrongLength, WrongMark, WrongVersion, KeyMismatch, InverseMismatch}
-use Rattle.answers.specs.declared.Answer.{Answer}
-use Rattle.answers.specs.declared.Answer.TheVariants.{Done}
-use Rattle.answers.specs.Answers.{unless, and_then, on_done}
+use Rattle.answers.specs.Answers.{unless, and_then, on_done, Answer, Done}
 use Rattle.records.specs.Layout.{secret_key_mark, secret_key_version, expanded_key_version, secret_key_length, expanded_key_length}
 use Rattle.records.specs.Records.{first_of, second_of, codes_part, secret_of, stored_inverse, header_answer, a_word, b_word, inverse_word, words_answer, elements_answer, codes_answer}
 use Rattle.public_keys.specs.PublicKeys.{inverse_answer}

@@ -1,12 +1,12 @@
--- A text that is put into a buffer piece by piece.
-use mathlib.Core.Path.{◌≡◌, sym, ap, ap₂, ◌∙◌}
+-- A text that is put together piece by piece, as far as there is room, and one that is written into a buffer.
+use mathlib.Core.Path.{◌≡◌, sym, ap, ◌∙◌}
 use mathlib.Core.Bool.{Bool, true, false, cond}
-use mathlib.Core.List.{List, [], ◌++◌, append_assoc, append-nil}
+use mathlib.Core.List.{List, ◌++◌, append_assoc, append-nil}
 use Prim.Native.Nat.{ℕ, ◌+◌, ◌-◌, ◌≤◌, min}
 use native.Mathlib.Decide.{dec_le}
 use native.Mathlib.Omega.{arith}
-use lib.ListN.{length, take, drop, length-append, length-drop, drop_of_length-le}
-use lib.Seq.{take_all, take_at, drop_at, take-append-le, take-append-add, drop-drop, drop-nil, length-take-le}
+use lib.ListN.{length, take, drop, length-append, drop_of_length-le}
+use lib.Seq.{take_all, take-append-le, take-append-add, length-take-le}
 use Rattle.text.specs.Text.{written}
 
 -- there is room
@@ -17,72 +17,40 @@ written-fits s out h = rw (take_all (length out) s h)
 pub written_full : (s out : List ℕ) → length out ≤ length s → written s out ≡ take (length out) s
 written_full s out h = rw (drop_of_length-le out {i = length s} h) (append-nil _)
 
--- the front of a text that there is room for
-pub written-front : (k : ℕ) (s out : List ℕ) → k ≤ length s → length s ≤ length out → take k (written s out) ≡ take k s
-written-front k s out h room = ap (take k) (written-fits s out room) ∙ take-append-le k s _ h
-
 -- one of two texts, of which neither is longer than this
 pub either-most : (b : Bool) (l m : List ℕ) (most : ℕ) → length l ≤ most → length m ≤ most → length (cond b l m) ≤ most
 either-most true l m most p q = p
 either-most false l m most p q = q
 
--- n bytes were copied, which is all that there is room for
-pub copied : (s out : List ℕ) (n : ℕ) → n ≡ min (length s) (length out) → take n s ++ drop n out ≡ written s out
-copied s out n e = by (dec_le (length s) (length out))
+-- n bytes were appended, which is all that there is room for
+pub pushed : (most : ℕ) (text s : List ℕ) {n : ℕ} → length text ≤ most → n ≡ min (length s) (most - length text)
+    → text ++ take n s ≡ take most (text ++ s)
+pushed most text s {n} h e = by (dec_le (length s) (most - length text))
   where
-    by : Dec (length s ≤ length out) → take n s ++ drop n out ≡ written s out
-    by (yes h) =
-        let m : n ≡ length s = omega arith in
-        ap₂ ◌++◌ (take_all n s (omega arith)) (ap (λ (k : ℕ). drop k out) m) ∙ sym (written-fits s out h)
+    by : Dec (length s ≤ most - length text) → text ++ take n s ≡ take most (text ++ s)
+    by (yes room) =
+        let whole : text ++ take n s ≡ text ++ s = ap (λ (l : List ℕ). text ++ l) (take_all n s (omega (arith, e))) in
+        whole ∙ sym (take_all most (text ++ s) (omega (arith, length-append text s)))
+    by (no full) =
+        let left : n ≡ most - length text = omega (arith, e, full) in
+        let all : length text + (most - length text) ≡ most = omega arith in
+        ap (λ (k : ℕ). text ++ take k s) left ∙ sym (take-append-add text s (most - length text)) ∙ ap (λ (k : ℕ). take k (text ++ s)) all
+
+push_more : (most : ℕ) (text s : List ℕ) → take most (take most text ++ s) ≡ take most (text ++ s)
+push_more most text s = by (dec_le (length text) most)
+  where
+    by : Dec (length text ≤ most) → take most (take most text ++ s) ≡ take most (text ++ s)
+    by (yes h) = ap (λ (l : List ℕ). take most (l ++ s)) (take_all most text h)
     by (no h) =
-        let m : n ≡ length out = omega arith in
-        ap₂ ◌++◌ (ap (λ (k : ℕ). take k s) m) (drop_of_length-le out {i = n} (omega arith)) ∙ append-nil _ ∙ sym (written_full s out (omega arith))
+        take-append-le most (take most text) s (omega (arith, h, length-take-le most text (omega (arith, h))))
+        ∙ take_all most (take most text) (omega (arith, h, length-take-le most text (omega (arith, h))))
+        ∙ sym (take-append-le most text s (omega (arith, h)))
 
--- `text` stands at the front of a buffer that held `old`, as far as there is room, and ends at `at`
-pub record Put (text old now : List ℕ) (at : ℕ) : Type 0 where
-  pub bytes : now ≡ written text old
-  pub end : at ≡ min (length text) (length old)
+-- a text that holds what has been put together, as far as there is room, holds it with one piece more
+pub put_more : (most : ℕ) (text s : List ℕ) {old new : List ℕ} → old ≡ take most text → new ≡ take most (old ++ s) → new ≡ take most (text ++ s)
+put_more most text s e p = p ∙ ap (λ (l : List ℕ). take most (l ++ s)) e ∙ push_more most text s
 
-pub put_none : (old : List ℕ) → Put [] old old 0
-put_none old = record { bytes = sym (written-fits [] old (omega arith)); end = omega arith }
-
-pub length-written : (s out : List ℕ) → length (written s out) ≡ length out
-length-written s out = by (dec_le (length s) (length out))
-  where
-    by : Dec (length s ≤ length out) → length (written s out) ≡ length out
-    by (yes h) = rw (written-fits s out h) (omega (arith, length-append s (drop (length s) out), length-drop (length s) out))
-    by (no h) = rw (written_full s out (omega arith)) (length-take-le (length out) s (omega arith))
-
-pub put-within : {text old now : List ℕ} {at : ℕ} → Put text old now at → at ≤ length now
-put-within {text} {old} p = omega (arith, p.end, ap length p.bytes, length-written text old)
-
--- one piece more
-pub put_more : {text old now next : List ℕ} {at end : ℕ} (s : List ℕ) → Put text old now at → end ≡ min (at + length s) (length now)
-    → next ≡ take at now ++ written s (drop at now) → Put (text ++ s) old next end
-put_more {text} {old} {now} {next} {at} {end} s p e b = record {
-  bytes = b ∙ ap (λ (x : List ℕ). take at x ++ written s (drop at x)) p.bytes ∙ by (dec_le (length text) (length old));
-  end = omega (arith, e, p.end, ap length p.bytes, length-written text old, length-append text s);
-}
-  where
-    by : Dec (length text ≤ length old) → take at (written text old) ++ written s (drop at (written text old)) ≡ written (text ++ s) old
-    by (yes h) =
-        let m : at ≡ length text = omega (arith, p.end) in
-        let rest : List ℕ = drop (length text) old in
-        let room : length rest ≡ length old - length text = length-drop (length text) old in
-        let all : length text + (length old - length text) ≡ length old = omega arith in
-        rw (written-fits text old h, take_at text rest at (sym m), drop_at text rest at (sym m))
-        (sym (append_assoc text (take (length rest) s) (drop (length s) rest))
-        ∙ ap₂ ◌++◌
-        (ap (λ (k : ℕ). text ++ take k s) room ∙ sym (take-append-add text s (length old - length text)) ∙ ap (λ (k : ℕ). take k (text ++ s)) all)
-        (drop-drop (length s) (length text) old ∙ ap (λ (k : ℕ). drop k old) (sym (length-append text s))))
-    by (no h) =
-        let m : at ≡ length old = omega (arith, p.end) in
-        let front : length (take (length old) text) ≡ length old = length-take-le (length old) text (omega arith) in
-        rw (written_full text old (omega arith), take_all at (take (length old) text) (omega arith), drop_of_length-le (take (length old) text) {i = at} (omega arith))
-        (ap (λ (x : List ℕ). take (length old) text ++ x) (drop-nil (length s)) ∙ append-nil _
-        ∙ sym (take-append-le (length old) text s (omega arith))
-        ∙ sym (written_full (text ++ s) old (omega (arith, length-append text s))))
-
--- where there is room for all of it
-pub put_all : {text old now : List ℕ} {at : ℕ} → Put text old now at → length text ≤ length old → at ≡ length text
-put_all p h = omega (arith, p.end)
+-- the same behind what a text held before
+pub put_both : (most : ℕ) (before text s : List ℕ) {old new : List ℕ} → old ≡ take most (before ++ text) → new ≡ take most (old ++ s)
+    → new ≡ take most (before ++ (text ++ s))
+put_both most before text s e p = put_more most (before ++ text) s e p ∙ ap (take most) (append_assoc before text s)

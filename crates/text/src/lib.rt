@@ -1,53 +1,64 @@
-// Text put together in a buffer, and numbers in decimal digits: what programs print. All texts are ASCII bytes.
+// Texts of bounded length, and numbers in decimal digits: what programs print. All texts are ASCII bytes.
 #![tactic(auto)]
 
-ghost use Rattle.std.specs.Prelude.{◌≡◌, ◌++◌, ◌+◌, ◌-◌, ◌≤◌, min, length, take, drop};
-ghost use Rattle.lists.specs.Table.{zeros};
-ghost use Rattle.text.specs.Text.{written, decimal};
+ghost use Rattle.std.specs.Prelude.{◌≡◌, [], ◌++◌, ◌≤◌, length, take};
+ghost use Rattle.text.specs.Text.{decimal};
 
-// Writes a text at a place of a buffer, as far as there is room, and gives the place behind it.
-pub fn put(out: &mut [u8], at: usize, s: &[u8]) -> usize
-    requires { at ≤ length out.old }
-    ensures value { result ≡ min (at + length s.now) (length out.old) }
-    ensures out_after { out.new ≡ take at out.old ++ written s.now (drop at out.old) }
-{
-    let n = octets::lesser(s.len(), out.len() - at);
-    let end = at + n;
-    octets::copy(&s[0..n], &mut out[at..end]);
-    end
+use std::marker::Model;
+
+// A text of at most N bytes. Clauses see the text.
+#[derive(Drop)]
+pub struct Text<const N: usize> {
+    // The text stands at the front.
+    bytes: [u8; N],
+    length: usize,
 }
 
-// A number in decimal: its digits are the bytes from `start` on, with zeros before them.
-#[derive(Clone, Copy)]
-pub struct Digits {
-    pub bytes: [u8; 20],
-    pub start: usize,
+impl<const N: usize> Model for Text<N> {
+    ghost use Rattle.std.specs.Prelude.{ℕ, ◌≤◌, List, take};
+
+    ghost Value = { List ℕ };
+
+    ghost view = { λ t. take t.length t.bytes };
+
+    ghost invariant = { λ t. t.length ≤ N };
 }
 
-pub fn decimal(n: u64) -> Digits
-    ensures bytes_value { result.bytes ≡ zeros (20 - length (decimal n)) ++ decimal n }
-    ensures start_value { (result.start ≡ 20 - length (decimal n)) × (result.start ≤ 19) }
-{
-    let mut bytes = [0u8; 20];
-    let mut left = n;
-    let mut i = 19;
-    while left >= 10 {
-        bytes[i] = b'0' + (left % 10) as u8;
-        left = left / 10;
-        i -= 1;
+impl<const N: usize> Text<N> {
+    pub fn new() -> Self
+        ensures { result ≡ [] }
+    {
+        Text {
+            bytes: [0; N],
+            length: 0,
+        }
     }
-    bytes[i] = b'0' + left as u8;
-    Digits { bytes, start: i }
-}
 
-// Writes a number at a place of a buffer, as `put` does.
-pub fn put_decimal(out: &mut [u8], at: usize, n: u64) -> usize
-    requires { at ≤ length out.old }
-    ensures value { result ≡ min (at + length (decimal n)) (length out.old) }
-    ensures out_after { out.new ≡ take at out.old ++ written (decimal n) (drop at out.old) }
-{
-    let digits = decimal(n);
-    let bytes = digits.bytes;
-    let start = digits.start;
-    put(out, at, &bytes[start..20])
+    // Appends a text, as far as there is room.
+    pub fn push(&mut self, s: &[u8])
+        ensures { self.new ≡ take N (self.old ++ s.now) }
+    {
+        let start = self.length;
+        let n = s.len().min(N - start);
+        let bytes = &mut self.bytes[..];
+        bytes[start..start + n].copy_from_slice(&s[..n]);
+        self.length = start + n;
+    }
+
+    // Appends a number likewise.
+    pub fn push_decimal(&mut self, n: u64)
+        ensures { self.new ≡ take N (self.old ++ decimal n) }
+    {
+        if n >= 10 {
+            self.push_decimal(n / 10);
+        }
+        self.push(&[b'0' + (n % 10) as u8]);
+    }
+
+    pub fn as_bytes(&self) -> &[u8]
+        ensures value { result.now ≡ self.now }
+        ensures fits { length result.now ≤ N }
+    {
+        &self.bytes[..self.length]
+    }
 }

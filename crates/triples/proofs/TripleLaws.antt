@@ -5,11 +5,11 @@ use mathlib.Core.Logic.{◌↔◌}
 use mathlib.Core.List.{List}
 use Prim.Native.Nat.{ℕ, ◌<◌}
 use Rattle.encoding.specs.Codes.{first_invalid_code}
-use Rattle.answers.specs.declared.Answer.TheVariants.{Done}
 use Rattle.answers.proofs.AnswerLaws.{then-done, Never, then_never}
 use Rattle.records.specs.Records.{part}
 use Rattle.records.proofs.RecordLaws.{codes-done, codes_never}
 use Rattle.triples.specs.Triple.{triple_answer}
+use Rattle.answers.specs.Answers.{Done}
 
 pub triple-done : (bytes : List ℕ) → (triple_answer bytes ≡ Done)
     ↔ ((first_invalid_code (part 0 256 bytes) ≡ 1024) × (first_invalid_code (part 256 256 bytes) ≡ 1024) × (first_invalid_code (part 512 256 bytes) ≡ 1024))

@@ -2,8 +2,7 @@
 use Rattle.std.specs.Prelude.{List, ◌++◌, ℕ}
 use Rattle.scheme.specs.Scheme.{Triple}
 use Rattle.encoding.specs.Codes.{ternary_of, ternary_bytes}
-use Rattle.answers.specs.declared.Answer.{Answer}
-use Rattle.answers.specs.Answers.{and_then}
+use Rattle.answers.specs.Answers.{and_then, Answer}
 use Rattle.records.specs.Layout.{ternary_length}
 use Rattle.records.specs.Records.{part, codes_answer}
 

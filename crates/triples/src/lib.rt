@@ -9,7 +9,6 @@ ghost use Rattle.triples.specs.Triple.{triple_of, triple_answer, triple_bytes};
 
 use answers::Answer;
 use encoding::TERNARY_LENGTH;
-use ntt::Element;
 use records::TRIPLE_LENGTH;
 use scheme::Triple;
 
@@ -23,10 +22,9 @@ pub fn check_triple(bytes: &[u8]) -> Answer
     requires { length bytes.now ≡ triple_length }
     ensures { result ≡ triple_answer bytes.now }
 {
-    let r = records::check_codes(&bytes[0..E1]);
-    let e1 = records::check_codes(&bytes[E1..E2]);
-    let e2 = records::check_codes(&bytes[E2..TRIPLE_LENGTH]);
-    answers::and_then(r, answers::and_then(e1, e2))
+    records::check_codes(&bytes[0..E1])?;
+    records::check_codes(&bytes[E1..E2])?;
+    records::check_codes(&bytes[E2..TRIPLE_LENGTH])
 }
 
 // Of 768 bytes, whatever their codes.
@@ -41,12 +39,12 @@ pub fn read_triple(bytes: &[u8]) -> Triple
 }
 
 // Writes the bytes of a triple at the front of a buffer; one that is too short stays as it came.
-pub fn write_triple(r: Element, e1: Element, e2: Element, out: &mut [u8])
-    ensures { out.new ≡ put_front (triple_bytes r e1 e2) out.old }
+pub fn write_triple(t: Triple, out: &mut [u8])
+    ensures { out.new ≡ put_front (triple_bytes t.r t.e1 t.e2) out.old }
 {
     if out.len() >= TRIPLE_LENGTH {
-        encoding::encode_ternary(r, &mut out[0..E1]);
-        encoding::encode_ternary(e1, &mut out[E1..E2]);
-        encoding::encode_ternary(e2, &mut out[E2..TRIPLE_LENGTH]);
+        encoding::encode_ternary(t.r, &mut out[0..E1]);
+        encoding::encode_ternary(t.e1, &mut out[E1..E2]);
+        encoding::encode_ternary(t.e2, &mut out[E2..TRIPLE_LENGTH]);
     }
 }

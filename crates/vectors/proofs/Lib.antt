@@ -1,4 +1,4 @@
 -- What the proofs of programs share: lists that are the same, the fields of a text, and the count over its cases.
 pub mod Answers
 pub mod Texts
-pub mod Counts
+pub mod Cases

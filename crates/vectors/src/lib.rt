@@ -1,9 +1,9 @@
 #![tactic(auto)]
 // What programs over files of test vectors share: the fields of a file, the verdict on a case, and reading a file whole.
-ghost use Rattle.std.specs.Prelude.{◌≡◌, ◌+◌, ◌*◌, ◌≤◌, ◌<◌, min, length, get_or, replicate};
+ghost use Rattle.std.specs.Prelude.{◌≡◌, List, ℕ, ◌+◌, ◌≤◌, ◌<◌, length, replicate, IfOk};
 ghost use Rattle.lists.specs.Table.{zeros};
-ghost use Rattle.vectors.specs.Fields.{word32, end_from, start, field, has_field, is_sized, after_case};
-ghost use Rattle.vectors.specs.Answers.{is_same, verdict_of, Within, bytes_read, one_more, counted};
+ghost use Rattle.vectors.specs.Fields.{word32, end_from, start, field, has_field, is_sized, after_case, places};
+ghost use Rattle.vectors.specs.Answers.{is_same, verdict_of, one_more, counted, Adds, Judges, tally, report};
 
 use std::fs;
 use std::io::Read;
@@ -11,22 +11,16 @@ use std::rt::Files;
 
 // ---- fields
 
-fn join4(b0: u8, b1: u8, b2: u8, b3: u8) -> u32
-    ensures { result ≡ b0 + 256 * b1 + 65536 * b2 + 16777216 * b3 }
-{
-    b0 as u32 + 256 * (b1 as u32) + 65536 * (b2 as u32) + 16777216 * (b3 as u32)
-}
-
 // The word that a text starts with; of the bytes of a field, the number that it holds.
 fn word(text: &[u8]) -> u32
     ensures { result ≡ word32 text.now }
 {
-    join4(
+    u32::from_le_bytes([
         octets::byte_at(text, 0),
         octets::byte_at(text, 1),
         octets::byte_at(text, 2),
         octets::byte_at(text, 3),
-    )
+    ])
 }
 
 // Where the field that starts at a place ends, by its length.
@@ -43,7 +37,7 @@ fn start(text: &[u8], i: usize) -> usize
 {
     let mut at = 0;
     for k in 0..i {
-        at = octets::lesser(end_from(text, at), text.len());
+        at = end_from(text, at).min(text.len());
     }
     at
 }
@@ -53,8 +47,8 @@ pub fn field(text: &[u8], i: usize) -> &[u8]
     ensures { result.now ≡ field i text.now }
 {
     let at = start(text, i);
-    let first = octets::lesser(at + 4, text.len());
-    let end = octets::lesser(end_from(text, at), text.len());
+    let first = (at + 4).min(text.len());
+    let end = end_from(text, at).min(text.len());
     &text[first..end]
 }
 
@@ -98,15 +92,7 @@ pub fn after_case(text: &[u8], at: usize, fields: usize) -> usize
 pub fn same(a: &[u8], b: &[u8]) -> bool
     ensures { result ≡ is_same a.now b.now }
 {
-    if a.len() != b.len() {
-        return false;
-    }
-    for k in 0..a.len() {
-        if a[k] != b[k] {
-            return false;
-        }
-    }
-    true
+    a == b
 }
 
 // ---- output buffers: filled before a call, so that a case that is refused shows that nothing was written
@@ -114,25 +100,18 @@ pub fn same(a: &[u8], b: &[u8]) -> bool
 pub fn fill(buffer: &mut [u8], value: u8)
     ensures { buffer.new ≡ replicate (length buffer.old) value }
 {
-    for i in 0..buffer.len() {
-        buffer[i] = value;
-    }
+    buffer.fill(value);
 }
 
 pub fn is_filled(buffer: &[u8], value: u8) -> bool
     ensures { result ≡ is_same buffer.now (replicate (length buffer.now) value) }
 {
-    for k in 0..buffer.len() {
-        if buffer[k] != value {
-            return false;
-        }
-    }
-    true
+    buffer.iter().all(|x| *x == value)
 }
 
 // ---- cases
 
-// The verdict on a case.
+// The verdict on a case: three answers on a par.
 #[derive(Clone, Copy)]
 pub enum Verdict {
     Agreed,
@@ -155,46 +134,84 @@ pub fn judged(sound: bool, agrees: bool) -> Verdict
     }
 }
 
-// What is said of the cases of a file: how many agreed and how many differed, or where one is that is not whole or not of its kind.
+// How many cases of a file agreed, and how many differed.
 #[derive(Clone, Copy)]
-pub enum Report {
-    Counts(u64, u64),
-    // The byte at which the first such case starts.
-    MalformedByte(usize),
-    // The line, in a file of text.
-    MalformedLine(usize),
+pub struct Counts {
+    pub agreed: u64,
+    pub differed: u64,
 }
+
+// Where a file has a case that is not whole or not of its kind, or another line that is wrong.
+#[derive(Clone, Copy)]
+pub enum MalformedAt {
+    // The byte at which the first such case starts.
+    Byte(usize),
+    // The line, in a file of text.
+    Line(usize),
+}
+
+// What is said of the cases of a file.
+pub type Report = Result<Counts, MalformedAt>;
 
 // The largest count stays.
 pub fn one_more(count: u64) -> u64
     ensures { result ≡ one_more count }
 {
-    if count < 18446744073709551615 {
-        count + 1
-    } else {
-        18446744073709551615
-    }
-}
-
-fn add_to_counts(agreed: u64, differed: u64, verdict: Verdict, at: usize) -> Report
-    ensures { result ≡ counted (Report.Counts agreed differed) verdict at }
-{
-    match verdict {
-        Verdict::Agreed => Report::Counts(one_more(agreed), differed),
-        Verdict::Differed => Report::Counts(agreed, one_more(differed)),
-        Verdict::Malformed => Report::MalformedByte(at),
-    }
+    count.saturating_add(1)
 }
 
 // The report with one case more, which starts at a byte.
 pub fn counted(report: Report, verdict: Verdict, at: usize) -> Report
     ensures { result ≡ counted report verdict at }
 {
-    match report {
-        Report::Counts(agreed, differed) => add_to_counts(agreed, differed, verdict, at),
-        Report::MalformedByte(place) => Report::MalformedByte(place),
-        Report::MalformedLine(place) => Report::MalformedLine(place),
+    let counts = report?;
+    match verdict {
+        Verdict::Agreed => Ok(Counts {
+            agreed: one_more(counts.agreed),
+            ..counts
+        }),
+        Verdict::Differed => Ok(Counts {
+            differed: one_more(counts.differed),
+            ..counts
+        }),
+        Verdict::Malformed => Err(MalformedAt::Byte(at)),
     }
+}
+
+// Works through the cases of a text, each of so many fields: `add` adds the verdict on each, which `judge` gives of the text from its
+// place on.
+pub fn tally<A, G: Fn(A, Verdict, usize) -> A, J: Fn(&[u8]) -> Verdict>(
+    text: &[u8],
+    fields: usize,
+    none: A,
+    add: G,
+    judge: J,
+) -> A
+    requires some { 0 < fields }
+    requires adds { G.IsAlwaysCallable add }
+    requires judges { J.IsAlwaysCallable judge }
+    ensures { (sum : A → Verdict → ℕ → A) (verdict : List ℕ → Verdict) → Adds G.Fn add sum → Judges J.Fn judge verdict → result ≡ tally sum verdict text.now none (places fields text.now) }
+{
+    let mut so_far = none;
+    let mut at = 0;
+    while at < text.len() {
+        so_far = add(so_far, judge(&text[at..]), at);
+        at = after_case(text, at, fields);
+    }
+    so_far
+}
+
+// The report on a text whose cases have so many fields.
+pub fn judge_cases<J: Fn(&[u8]) -> Verdict>(text: &[u8], fields: usize, judge: J) -> Report
+    requires some { 0 < fields }
+    requires judges { J.IsAlwaysCallable judge }
+    ensures { (verdict : List ℕ → Verdict) → Judges J.Fn judge verdict → result ≡ report verdict fields text.now }
+{
+    let none = Counts {
+        agreed: 0,
+        differed: 0,
+    };
+    tally(text, fields, Ok(none), counted, judge)
 }
 
 // ---- files
@@ -206,49 +223,37 @@ pub fn file_buffer() -> [u8; 2097152]
     [0; 2097152]
 }
 
-// What became of reading a file: so many bytes, or why none.
+// Why a file was not read.
 #[derive(Clone, Copy)]
-pub enum Contents {
-    Bytes(usize),
+pub enum FileError {
     TooLong,
+    // It cannot be opened or read, or its name is not UTF-8.
     Missing,
 }
 
-// Reads what is left of a file. One more read tells whether the file goes on, or cannot be read.
-fn read_open<R: Read>(file: &mut R, buffer: &mut [u8]) -> Contents
-    ensures { Within result buffer.new }
+// Reads what is left of a file, and answers how many bytes that is. One more read tells whether the file goes on, or cannot be read.
+fn read_open<R: Read>(file: &mut R, buffer: &mut [u8]) -> Result<usize, FileError>
+    ensures { IfOk result (λ n. n ≤ length buffer.new) }
 {
     let Ok(n) = reading::read_full(file, buffer) else {
-        return Contents::Missing;
+        return Err(FileError::Missing);
     };
-    let mut more = [0u8; 1];
-    match file.read(&mut more) {
-        Ok(0) => Contents::Bytes(n),
-        Ok(_) => Contents::TooLong,
-        Err(_) => Contents::Missing,
+    match file.read(&mut [0]) {
+        Ok(0) => Ok(n),
+        Ok(_) => Err(FileError::TooLong),
+        Err(_) => Err(FileError::Missing),
     }
 }
 
-// Reads a whole file into the front of a buffer. A file that cannot be opened or read is missing, and so is one whose name is not UTF-8.
-pub fn read_file(files: &impl Files, name: &[u8], buffer: &mut [u8]) -> Contents
-    ensures { Within result buffer.new }
+// Reads a whole file into the front of a buffer, and answers how many bytes that is.
+pub fn read_file(files: &impl Files, name: &[u8], buffer: &mut [u8]) -> Result<usize, FileError>
+    ensures { IfOk result (λ n. n ≤ length buffer.new) }
 {
     let Ok(name) = std::str::from_utf8(name) else {
-        return Contents::Missing;
+        return Err(FileError::Missing);
     };
-    match fs::open(files, name) {
-        Ok(mut file) => read_open(&mut file, buffer),
-        Err(_) => Contents::Missing,
-    }
-}
-
-// The bytes of a file that was read into the front of a buffer; none where it was not.
-pub fn read_bytes(read: Contents, buffer: &[u8]) -> &[u8]
-    ensures { result.now ≡ bytes_read read buffer.now }
-{
-    match read {
-        Contents::Bytes(n) => &buffer[..octets::lesser(n, buffer.len())],
-        Contents::TooLong => &buffer[..0],
-        Contents::Missing => &buffer[..0],
-    }
+    let Ok(mut file) = fs::open(files, name) else {
+        return Err(FileError::Missing);
+    };
+    read_open(&mut file, buffer)
 }

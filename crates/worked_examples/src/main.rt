@@ -8,7 +8,7 @@ use answers::{Answer, Location};
 use encoding::TERNARY_LENGTH;
 use keys::TRIPLE_NOISE_LENGTH;
 use modq::Q;
-use ntt::{DEGREE, Element};
+use ntt::Element;
 use octets::BLOCK_LENGTH;
 use records::{
     ENCAPSULATION_LENGTH, FIRST, PUBLIC_KEY_LENGTH, SECOND, SECRET_KEY_LENGTH, TRIPLE_LENGTH,
@@ -25,11 +25,9 @@ fn print_text(rt: &impl Print, text: &[u8]) -> io::Result<()> {
 // The words of a location behind a comma; nothing where no word is named.
 fn print_location(rt: &impl Print, l: Location) -> io::Result<()> {
     let words = location_text::words(l);
-    let bytes = words.bytes;
-    let length = words.length;
-    if length != 0 {
+    if !words.as_bytes().is_empty() {
         print_text(rt, b", ")?;
-        print_text(rt, &bytes[0..length])?;
+        print_text(rt, words.as_bytes())?;
     }
     Ok(())
 }
@@ -72,12 +70,12 @@ fn print_term(rt: &impl Print, c: u16, k: usize) -> io::Result<()> {
 // The terms that are not zero, or 0 where there is none.
 fn print_polynomial(rt: &impl Print, a: Element) -> io::Result<()> {
     let mut any = false;
-    for k in 0..DEGREE {
-        if a[k] != 0 {
+    for (k, c) in a.iter().enumerate() {
+        if *c != 0 {
             if any {
                 print_text(rt, b" + ")?;
             }
-            print_term(rt, a[k], k)?;
+            print_term(rt, *c, k)?;
             any = true;
         }
     }
@@ -90,15 +88,14 @@ fn print_polynomial(rt: &impl Print, a: Element) -> io::Result<()> {
 // ---- units
 
 fn print_inverse(rt: &impl Print, name: &[u8], a: Element) -> io::Result<()> {
-    let inversion = ring::inverse(a);
     print_text(rt, name)?;
-    if inversion.exists {
-        let value = inversion.value;
-        print_text(rt, b": unit, its inverse is ")?;
-        print_polynomial(rt, value)?;
-        print_text(rt, b"\n")
-    } else {
-        print_text(rt, b": no unit\n")
+    match ring::inverse(a) {
+        Some(inverse) => {
+            print_text(rt, b": unit, its inverse is ")?;
+            print_polynomial(rt, inverse)?;
+            print_text(rt, b"\n")
+        }
+        None => print_text(rt, b": no unit\n"),
     }
 }
 
@@ -143,7 +140,7 @@ fn print_opening(rt: &impl Print, c1: u16, c2: u16, dummy: &[u8]) -> io::Result<
     let mut triple = [0u8; TRIPLE_LENGTH];
     let answer = opening::decapsulate(&key, &c, dummy, &mut triple);
     print_answer(rt, answer)?;
-    if let Answer::Done = answer {
+    if let Ok(()) = answer {
         print_triple(rt, &triple)?;
     }
     print_text(rt, b"\n")
@@ -178,7 +175,7 @@ fn print_keygen(rt: &impl Print, name: &[u8], stream: &[u8]) -> io::Result<()> {
     let answer = key_calls::keygen(stream, &s, &e, &mut public, &mut secret);
     print_text(rt, name)?;
     print_answer(rt, answer)?;
-    if let Answer::Done = answer {
+    if let Ok(()) = answer {
         print_text(rt, b", a = ")?;
         print_polynomial(rt, encoding::decode_element(&public[FIRST..SECOND]))?;
     }

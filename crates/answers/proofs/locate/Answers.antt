@@ -2,5 +2,5 @@ use mathlib.Core.Path.{sym, ap}
 use Rattle.answers.specs.Locations.{location}
 use Rattle.answers.proofs.locate.Goals as goal
 
-pub returns-in-Done : goal.returns-in-Done
-returns-in-Done c = sym (ap location c.in-Done.is)
+pub returns-in-Ok : goal.returns-in-Ok
+returns-in-Ok c = sym (ap location c.in-Ok.is)

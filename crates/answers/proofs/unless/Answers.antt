@@ -1,7 +1,6 @@
 use mathlib.Core.Path.{sym, ap}
 use mathlib.Core.Bool.{Bool}
-use Rattle.answers.specs.declared.Answer.TheVariants.{Done}
-use Rattle.answers.specs.Answers.{unless}
+use Rattle.answers.specs.Answers.{unless, Done}
 use Rattle.answers.proofs.unless.Goals as goal
 
 pub returns-then-passes : goal.returns-then-passes

@@ -8,8 +8,7 @@ use Rattle.batch_records.proofs.write_front.Goals as goal
 
 pub returns : goal.returns
 returns c =
-    let first = c in
-    let args = first.args in
-    let front = record_bytes sealed_entry_mark 2 args.c1 args.c2 in
-    put-plain front (take 2 args.l) args.out.now _ third_place 2 first.write_record.ensures
-    (length-record_bytes sealed_entry_mark 2 args.c1 args.c2) refl c.copy.ensures
+    let args = c.args in
+    let front = record_bytes sealed_entry_mark 2 args.c.c1 args.c.c2 in
+    put-plain front (take 2 args.l) args.out.now _ third_place 2 c.write_record.ensures
+    (length-record_bytes sealed_entry_mark 2 args.c.c1 args.c.c2) refl c.copy.ensures

@@ -17,23 +17,19 @@ use Rattle.batch_sealing.proofs.write_batch.Goals as goal
 pub returns : goal.returns
 unfolding batch_bytes count_block
 returns c =
-    let put = c in
-    let first = put in
-    let counted = first in
-    let start = counted in
-    let args = start.args in
+    let args = c.args in
     let old = args.out.now in
     let blocks = args.blocks.now in
     let size = length blocks in
-    let t = triple_of args.t in
-    let front = record_bytes sealed_entry_mark 2 args.c1 args.c2 ++ count_bytes (entries blocks) in
+    let t = triple_of args.p.triple in
+    let front = record_bytes sealed_entry_mark 2 args.p.c.c1 args.p.c.c2 ++ count_bytes (entries blocks) in
     let body = body_of t.r t.e1 t.e2 blocks in
-    let l = counted.count_block-l.ensures in
-    let shown = put.protect-tag.ensures.body_after in
-    let tagged = put.protect-tag.ensures.value in
-    let length_front : length front ≡ 4103 = omega (arith, length-append (record_bytes sealed_entry_mark 2 args.c1 args.c2) (count_bytes (entries blocks)), length-record_bytes sealed_entry_mark 2 args.c1 args.c2) in
-    let one = first.write_front.ensures ∙ ap (λ (x : List ℕ). (record_bytes sealed_entry_mark 2 args.c1 args.c2 ++ take 2 x) ++ drop 4103 old) l in
+    let l = c.count_block-l.ensures in
+    let shown = c.protect-tag.ensures.body_after in
+    let tagged = c.protect-tag.ensures.value in
+    let length_front : length front ≡ 4103 = omega (arith, length-append (record_bytes sealed_entry_mark 2 args.p.c.c1 args.p.c.c2) (count_bytes (entries blocks)), length-record_bytes sealed_entry_mark 2 args.p.c.c1 args.p.c.c2) in
+    let one = c.write_front.ensures ∙ ap (λ (x : List ℕ). (record_bytes sealed_entry_mark 2 args.p.c.c1 args.p.c.c2 ++ take 2 x) ++ drop 4103 old) l in
     let two = put-plain front body old _ 4103 (4103 + size - 4103) {e = 4103 + size} one length_front (omega arith) shown in
     put-plain (front ++ body) _ old _ (4103 + size) (4119 + size - (4103 + size)) {e = 4119 + size} two (omega (arith, length-append front body, length-body_of t.r t.e1 t.e2 blocks)) (omega arith)
     (c.write_block.ensures ∙ tagged ∙ ap (λ (x : List ℕ). tag_of t.r t.e1 t.e2 (x ++ body)) l)
-    ∙ put_all _ old (4119 + size) (omega (arith, start.requires.1))
+    ∙ put_all _ old (4119 + size) (omega (arith, c.requires.1))

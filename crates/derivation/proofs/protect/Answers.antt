@@ -10,9 +10,9 @@ returns c =
     let put = c in
     let derived = put in
     let args = derived.args in
-    let r = args.r in
-    let e1 = args.e1 in
-    let e2 = args.e2 in
+    let r = args.t.r in
+    let e1 = args.t.e1 in
+    let e2 = args.t.e2 in
     let entry = args.entry.now in
     let (first, second, third) = derived.derive_keys-keys.ensures in
     let body = body_by r e1 e2 entry first put.under_keystream.ensures in record { body_after = body; value = tag_by r e1 e2 _ second third c.tag.ensures ∙ ap (λ (s : List ℕ). tag_of r e1 e2 (args.front.now ++ s)) body }

@@ -1,9 +1,12 @@
+use mathlib.Core.Path.{ap, ap₂, ◌∙◌}
 use mathlib.Core.List.{◌++◌}
+use Rattle.std.specs.Bool.{then_some}
 use Rattle.derivation.proofs.Laws.{genuine_by}
 use Rattle.derivation.proofs.verify.Goals as goal
 
 pub returns : goal.returns
 returns c =
-    let derived = c in
-    let args = derived.args in
-    let (first, second, third) = derived.derive_keys-keys.ensures in record { genuine_value = genuine_by args.r args.e1 args.e2 (args.front.now ++ args.body.now) args.tag second third c.tag-expected.ensures c.equal.ensures; k0_value = first }
+    let args = c.args in
+    let t = args.t in
+    let (first, second, third) = c.derive_keys-keys.ensures in
+    c.then_some.ensures ∙ ap₂ then_some (genuine_by t.r t.e1 t.e2 (args.front.now ++ args.body.now) args.tag second third c.tag-expected.ensures c.equal.ensures) first

@@ -1,13 +1,12 @@
-use mathlib.Core.Path.{sym}
-use lib.ListN.{length}
-use Rattle.desk_opening.proofs.Answers.{answer_by_length}
-use borrow.Author.Tests.{ne_eqb}
+use mathlib.Core.Path.{sym, ◌∙◌}
+use Rattle.std.proofs.Common.{rules}
+use Rattle.answers.proofs.AnswerLaws.{given-done, given-refused}
 use Rattle.desk_opening.proofs.answer.Goals as goal
 
-pub returns-then-input-ne-INPUT_LENGTH : goal.returns-then-input-ne-INPUT_LENGTH
-returns-then-input-ne-INPUT_LENGTH c =
-    let input = c.args.input.now in
-    sym (answer_by_length input (ne_eqb (length input) 10026 c.if-input-ne-INPUT_LENGTH.true))
+pub returns-in_err-open_input : goal.returns-in_err-open_input
+returns-in_err-open_input c =
+    let refused = given-refused _ (sym c.in_err-open_input.was ∙ c.open_input.ensures) in
+    search (rules, refused)
 
 pub returns : goal.returns
-returns c = c.open_input-opened.ensures.answer_value
+returns c = sym (given-done (sym c.in_ok-open_input.was ∙ c.open_input.ensures)).0

@@ -1,20 +1,16 @@
 use mathlib.Core.Path.{sym, ap, ◌∙◌}
 use lib.ListN.{length}
-use Rattle.lists.specs.Table.{zeros}
-use Rattle.answers.specs.declared.Answer.{Answer}
-use Rattle.answers.specs.Answers.{on_done}
-use Rattle.records.specs.Layout.{block_length}
-use Rattle.calls.specs.Calls.{open_out}
-use Rattle.desk_opening.specs.Input.{key_part, sealed_part, dummy_part, desk_entry}
-use Rattle.desk_opening.proofs.Answers.{answer_by_length}
-use borrow.Author.Tests.{eq-eqb}
+use Rattle.std.specs.Prelude.{Ok}
+use Rattle.answers.specs.Answers.{and_then, Answer}
+use Rattle.desk_opening.specs.Input.{desk_entry}
+use Rattle.desk_opening.proofs.Answers.{answer_by_length, entry_given}
+use borrow.Author.Tests.{ne_eqb}
 use Rattle.desk_opening.proofs.open_input.Goals as goal
 
+pub returns-then-input-ne-INPUT_LENGTH : goal.returns-then-input-ne-INPUT_LENGTH
+returns-then-input-ne-INPUT_LENGTH c =
+    let input = c.args.input.now in
+    sym (ap (λ (a : Answer). and_then a (Ok (desk_entry input))) (answer_by_length input (ne_eqb (length input) 10026 c.if-input-ne-INPUT_LENGTH.true)))
+
 pub returns : goal.returns
-unfolding desk_entry
-returns c =
-    let start = c in
-    let input = start.args.input.now in
-    let says = c.open_parts.ensures.answer_value in
-    let entry = c.open_parts.ensures.result_value in
-    let answer = says ∙ sym (answer_by_length input (eq-eqb (length input) 10026 start.requires)) in record { answer_value = answer; result_value = entry ∙ ap (λ (a : Answer). on_done a (open_out (key_part input) (sealed_part input) (dummy_part input) (zeros block_length)) (zeros block_length)) answer }
+returns c = c.open_parts.ensures ∙ entry_given c.args.input.now c.if-input-ne-INPUT_LENGTH.false

@@ -1,27 +1,11 @@
-use mathlib.Core.Path.{◌≡◌}
-use mathlib.Core.Bool.{true, false}
-use borrow.Author.Tests.{le-ltb, lt-ltb}
-use lib.ListN.{get_or}
-use Rattle.lists.proofs.Scan.{passed_none, passed_more, passed-stop, passed_all}
+use Rattle.std.proofs.Common.{rules, tests, ◌∙◌, sym, false, true, ◌≡◌}
+use Rattle.std.proofs.lemmas.Iterator.{YieldsList-from_slice, IsFirst-from_position}
+use Rattle.hexadecimal.proofs.First.{first_found}
 use Rattle.hexadecimal.specs.Hex.{is_digit}
 use Rattle.hexadecimal.proofs.count_digits.Goals as goal
 
-pub loop-i-init : goal.loop-i-init
-loop-i-init c = passed_none is_digit c.args.text.now
-
-pub returns-then-value-ge16 : goal.returns-then-value-ge16
-returns-then-value-ge16 c =
-    let at-loop = c in
-    let e : is_digit (get_or at-loop.args.text.now at-loop.loop-i.i 0) ≡ false =
-    le-ltb _ 16 (rw c.value.ensures at c.if-value-ge16.true) in
-    passed-stop at-loop.loop-i.invariant c.loop-i-test.true e
-
-pub loop-i-preserved : goal.loop-i-preserved
-loop-i-preserved c =
-    let at-loop = c in
-    let e : is_digit (get_or at-loop.args.text.now at-loop.loop-i.i 0) ≡ true =
-    lt-ltb _ 16 (rw c.value.ensures at c.if-value-ge16.false) in
-    passed_more at-loop.loop-i.invariant c.loop-i-test.true e
-
 pub returns : goal.returns
-returns c = passed_all c.loop-i.invariant c.loop-i-test.false
+returns c =
+    let found = IsFirst-from_position _ _ c.position.result (λ x. false ≡ is_digit x) (λ x. true ≡ is_digit x) c.position.ensures.ran
+    (YieldsList-from_slice c.args.text.now c.iter.ensures.rest) (λ x q k. search (rules, tests)) (λ x q k. search (rules, tests)) in
+    c.unwrap_or.ensures ∙ sym (first_found is_digit c.args.text.now c.position.result found)

@@ -8,10 +8,10 @@ use Rattle.hexadecimal.proofs.Text.{length_text, written-front}
 use Rattle.hexadecimal.proofs.encode.Goals as goal
 
 pub slice_bounds-put_text-end-2 : goal.slice_bounds-put_text-end-2
-slice_bounds-put_text-end-2 c = sym (length-take-le c.lesser-n.result c.args.out.now (omega arith))
+slice_bounds-put_text-end-2 c = sym (length-take-le c.min-n.result c.args.out.now (omega arith))
 
 pub put_text-requires : goal.put_text-requires
-put_text-requires c = omega (arith, length-take-le c.lesser-n.result c.args.out.now (omega arith))
+put_text-requires c = omega (arith, length-take-le c.min-n.result c.args.out.now (omega arith))
 
 pub returns : goal.returns
 returns c =
@@ -19,5 +19,5 @@ returns c =
     let bytes = called.args.bytes.now in
     let out = called.args.out.now in
     written-front (text_of bytes) out
-    (called.lesser-n.ensures ∙ ap (λ (k : ℕ). min k (length out)) (sym (length_text bytes)))
-    (c.put_text.ensures ∙ ap (λ (k : ℕ). take k (text_of bytes)) (length-take-le c.lesser-n.result c.args.out.now (omega arith)))
+    (called.min-n.ensures ∙ ap (λ (k : ℕ). min k (length out)) (sym (length_text bytes)))
+    (c.put_text.ensures ∙ ap (λ (k : ℕ). take k (text_of bytes)) (length-take-le c.min-n.result c.args.out.now (omega arith)))

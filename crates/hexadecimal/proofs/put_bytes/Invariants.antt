@@ -1,4 +1,3 @@
-use Prim.Native.Nat.{◌-◌}
 use lib.ListN.{length, take}
 use Rattle.lists.proofs.Fill.{Filled}
 use Rattle.hexadecimal.specs.Hex.{bytes_of}
@@ -6,6 +5,3 @@ use Rattle.hexadecimal.proofs.put_bytes.Given as goal
 
 abbrev pub invariant-loop-i : goal.invariant-loop-i
 invariant-loop-i l = Filled (length l.initial.out) (take (length l.initial.out) (bytes_of l.text)) l.out l.i
-
-abbrev pub decreases-loop-i : goal.decreases-loop-i
-decreases-loop-i l = length l.initial.out - l.i

@@ -25,6 +25,5 @@ slice_bounds-check_secret_key-end-2 c = backward-size c.backward_factors.ensures
 pub returns : goal.returns
 unfolding check_answer
 returns c =
-    let left = c in
-    let k = left.args.key.now in
-    let answer = c.check_secret_key.ensures ∙ sym (ap (λ (b : Bool). unless b WrongLength (secret_answer k)) (le-leb 5 (length k) left.if-key-lt-HEADER_LENGTH.false)) in record { value = answer; check_exact = check_promise k (ap number answer) }
+    let k = c.args.key.now in
+    let answer = c.check_secret_key.ensures ∙ sym (ap (λ (b : Bool). unless b WrongLength (secret_answer k)) (le-leb 5 (length k) c.if-key-lt-HEADER_LENGTH.false)) in record { value = answer; check_exact = check_promise k (ap number answer) }

@@ -6,14 +6,16 @@ use borrow.Author.Tests.{eqb-true}
 use Rattle.lists.proofs.Both.{both}
 use Rattle.ntt.proofs.Factors.{forward-size, backward-size}
 use Rattle.answers.specs.declared.Refusal.TheVariants.{WrongLength}
-use Rattle.answers.specs.declared.Answer.{Answer}
-use Rattle.answers.specs.Answers.{number, unless, on_done}
+use Rattle.answers.specs.Answers.{number, unless, on_done, Answer}
 use Rattle.ntt.specs.Spectrum.{coefficients_of}
 use Rattle.ring.specs.Invertible.{inverse_of}
 use Rattle.records.specs.Layout.{header_length, secret_key_version, expanded_key_length}
 use Rattle.records.specs.Records.{second_of, expanded_bytes}
 use Rattle.secret_keys.specs.SecretKeys.{version_answer}
-use Rattle.answers.proofs.AnswerLaws.{on_done_lem}
+use Rattle.std.specs.Prelude.{Err}
+use Rattle.std.proofs.lemmas.Result.{err_from_is_err_and}
+use Rattle.scheme.specs.declared.SecretKey.{SecretKey}
+use Rattle.answers.proofs.AnswerLaws.{given-done, given-refused, on_done_lem}
 use Rattle.conversion_calls.specs.Calls.{expand_answer, expand_out}
 use Rattle.conversion_calls.proofs.Promised.{expand_promise}
 use Rattle.key_conversion.proofs.Laws.{long_enough, inverse-read}
@@ -29,51 +31,48 @@ returns-then-not-fits c =
     let answer = sym (ap (λ (b : Bool). unless b WrongLength (version_answer secret_key_version k)) misfit) in
     let kept = ap (λ (a : Answer). on_done a (expanded_bytes k (inverse_of (second_of k))) old) answer in record { value = answer; out_after = kept; expand_exact = expand_promise k old (ap number answer) kept }
 
-pub slice_bounds-check_version-end : goal.slice_bounds-check_version-end
-slice_bounds-check_version-end c = forward-size c.forward_factors.ensures
+pub slice_bounds-read_version-end : goal.slice_bounds-read_version-end
+slice_bounds-read_version-end c = forward-size c.forward_factors.ensures
 
-pub slice_bounds-check_version-end-2 : goal.slice_bounds-check_version-end-2
-slice_bounds-check_version-end-2 c = backward-size c.backward_factors.ensures
+pub slice_bounds-read_version-end-2 : goal.slice_bounds-read_version-end-2
+slice_bounds-read_version-end-2 c = backward-size c.backward_factors.ensures
 
 pub slice_bounds-backward-end : goal.slice_bounds-backward-end
 slice_bounds-backward-end c = backward-size c.backward_factors.ensures
 
 pub write_expanded-requires : goal.write_expanded-requires
 write_expanded-requires c =
-    let checked = c in
-    let left = checked in
-    let args = left.args in
+    let args = c.args in
     let k = args.key.now in
     let room = length args.out.now in
-    let (_, fits) = both (leb header_length (length k)) (eqb room expanded_key_length) left.if-not-fits.false in
-    (long_enough false k (sym checked.check_version-checked.ensures.answer_value ∙ c.in-Done.is), eqb-true room expanded_key_length fits)
+    let (_, fits) = both (leb header_length (length k)) (eqb room expanded_key_length) c.if-not-fits.false in
+    let read = given-done (sym c.in_ok-read.was ∙ c.read_version.ensures) in
+    (long_enough false k read.0, eqb-true room expanded_key_length fits)
 
-pub returns-in-Done : goal.returns-in-Done
+pub returns-in_err-read : goal.returns-in_err-read
 unfolding expand_answer expand_out
-returns-in-Done c =
-    let back = c in
-    let told = back in
-    let checked = told in
-    let left = checked in
-    let args = left.args in
+returns-in_err-read c =
+    let args = c.args in
     let k = args.key.now in
     let old = args.out.now in
-    let fits : leb header_length (length k) && eqb (length old) expanded_key_length ≡ true = left.if-not-fits.false in
-    let says = checked.check_version-checked.ensures.answer_value in
-    let inverse = checked.check_version-checked.ensures.inverse_value in
-    let answer = says ∙ sym (ap (λ (b : Bool). unless b WrongLength (version_answer secret_key_version k)) fits) in
-    let done = told.in-Done.is in
-    let i = back.backward.ensures ∙ ap coefficients_of inverse ∙ inverse-read k (sym says ∙ done) in
-    let written = c.write_expanded.ensures ∙ ap (expanded_bytes k) i ∙ sym (on_done_lem _ old (sym answer ∙ done)) in record { value = answer; out_after = written; expand_exact = expand_promise k old (ap number answer) written }
+    let fits : leb header_length (length k) && eqb (length old) expanded_key_length ≡ true = c.if-not-fits.false in
+    let whole = sym (ap (λ (b : Bool). unless b WrongLength (version_answer secret_key_version k)) fits) in
+    let p = err_from_is_err_and c.from_residual.result c.from_residual.ensures.1 in
+    let refused = sym (given-refused _ (sym c.in_err-read.was ∙ c.read_version.ensures)) ∙ whole in
+    let answer = p.1 ∙ ap Err p.2 ∙ refused in
+    let kept = ap (λ (a : Answer). on_done a (expanded_bytes k (inverse_of (second_of k))) old) refused in
+    record { value = answer; out_after = kept; expand_exact = expand_promise k old (ap number answer) kept }
 
-pub returns-in_default : goal.returns-in_default
+pub returns : goal.returns
 unfolding expand_answer expand_out
-returns-in_default c =
-    let checked = c in
-    let left = checked in
-    let args = left.args in
+returns c =
+    let args = c.args in
     let k = args.key.now in
     let old = args.out.now in
-    let fits : leb header_length (length k) && eqb (length old) expanded_key_length ≡ true = left.if-not-fits.false in
-    let answer = checked.check_version-checked.ensures.answer_value ∙ sym (ap (λ (b : Bool). unless b WrongLength (version_answer secret_key_version k)) fits) in
-    let kept = ap (λ (a : Answer). on_done a (expanded_bytes k (inverse_of (second_of k))) old) (sym c.in_default.is ∙ answer) in record { value = answer; out_after = kept; expand_exact = expand_promise k old (ap number answer) kept }
+    let fits : leb header_length (length k) && eqb (length old) expanded_key_length ≡ true = c.if-not-fits.false in
+    let whole = sym (ap (λ (b : Bool). unless b WrongLength (version_answer secret_key_version k)) fits) in
+    let read = given-done (sym c.in_ok-read.was ∙ c.read_version.ensures) in
+    let answer = sym read.0 ∙ whole in
+    let inverse = c.backward.ensures ∙ ap (λ (key : SecretKey). coefficients_of key.inverse) read.1 ∙ inverse-read k read.0 in
+    let written = c.write_expanded.ensures ∙ ap (expanded_bytes k) inverse ∙ sym (on_done_lem (expanded_bytes k (inverse_of (second_of k))) old (sym answer)) in
+    record { value = answer; out_after = written; expand_exact = expand_promise k old (ap number answer) written }

@@ -3,9 +3,9 @@ use Rattle.make_key_output.specs.MakeKey.{standard_error}
 use Rattle.make_key_output.proofs.Printing.{output-done, output_refused}
 use Rattle.make_key_output.proofs.make_key.Goals as goal
 
-pub returns-in-Done : goal.returns-in-Done
+pub returns-in-Ok : goal.returns-in-Ok
 unfolding standard_error
-returns-in-Done c =
+returns-in-Ok c =
     let lined = c in
     let made = lined in
     let start = made in
@@ -13,7 +13,7 @@ returns-in-Done c =
     let answered = made.keys_of-answer.ensures.value in
     let public = made.keys_of-answer.ensures.public_after in
     let secret = made.keys_of-answer.ensures.secret_after in
-    let told = c.in-Done.is in
+    let told = c.in-Ok.is in
     let (public-size, secret-size) = start.requires in
     let output = output-done input start.args.public.now (sym answered ∙ told) (rw told at public) (rw told at secret) public-size
     (made.keys_of-answer.auto.secret ∙ secret-size) c.public_length.ensures in
@@ -23,8 +23,7 @@ returns-in-Done c =
       public_value = output.public_length;
       secret_value = output.secret_length;
       secret_after_2 = output.bytes;
-      bytes_value = rw answered at lined.line-error.ensures.bytes_value;
-      length_value = rw answered at lined.line-error.ensures.length_value;
+      error_value = rw answered at lined.line-error.ensures;
     }
 
 pub returns : goal.returns
@@ -43,6 +42,5 @@ returns c =
       public_value = output.public_length;
       secret_value = output.secret_length;
       secret_after_2 = output.bytes;
-      bytes_value = rw answered at c.line-error.ensures.bytes_value;
-      length_value = rw answered at c.line-error.ensures.length_value;
+      error_value = rw answered at c.line-error.ensures;
     }

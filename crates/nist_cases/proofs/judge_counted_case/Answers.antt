@@ -24,7 +24,7 @@ returns c =
     rw (
       sym second.is_count.ensures ∙ second.if-not-is_count.false,
       ← second.after_line-second.ensures,
-      sym read.length_field.ensures ∙ c.in-Value.is,
+      sym read.length_field.ensures ∙ c.in-Some.is,
       ← c.after_line.ensures,
     )
     c.judge_output.ensures

@@ -10,5 +10,5 @@ pub returns : goal.returns
 unfolding judged_length
 returns c =
     let read = c in
-    rw (sym read.length_field.ensures ∙ c.in-Value.is)
+    rw (sym read.length_field.ensures ∙ c.in-Some.is)
     (c.judge_message.ensures ∙ ap (judged_message _ _ _) c.after_line.ensures)

@@ -1,13 +1,12 @@
 use mathlib.Core.Path.{◌≡◌, sym, ap, ◌∙◌}
 use mathlib.Core.List.{List}
 use Prim.Native.Nat.{ℕ}
-use lib.IntN.{pos}
-use lib.ListN.{length, replicate}
-use mathlib.Core.Bool.{Bool, true, false, cond, ◌&&◌}
+use lib.ListN.{length}
+use mathlib.Core.Bool.{Bool, true, false, ◌&&◌}
 use lib.Dec.{eqb, leb}
 use Rattle.answers.specs.declared.Refusal.TheVariants.{WrongLength}
-use Rattle.answers.specs.declared.Answer.{Answer}
-use Rattle.answers.specs.Answers.{unless, on_done}
+use Rattle.answers.specs.Answers.{unless, and_then, on_done, Answer}
+use Rattle.std.specs.Prelude.{Ok}
 use Rattle.records.specs.Records.{body_part, tag_part, sealed_entry_answer}
 use Rattle.secret_keys.specs.SecretKeys.{secret_answer}
 use Rattle.calls.specs.Calls.{opened_entry, open_answer, open_out}
@@ -32,7 +31,7 @@ returns-then-not-fits c =
     let misfit : leb 5 (length k) && eqb (length e) 4133 && eqb (length noise) 1536 && eqb (length old) 16 ≡ false = c.if-not-fits.true in
     let answer = sym (ap (λ (b : Bool). unless b WrongLength (whole k e noise)) misfit) in
     let kept = ap (λ (a : Answer). on_done a (opened_entry (opened_outcome k e noise) (body_part e)) old) answer in
-    let none = sym (ap (λ (b : Bool). cond b (opened_quotients k e noise) (replicate 1024 (pos 0))) misfit) in record { answer_value = answer; quotients_value = none; out_after = kept }
+    record { value = ap (λ (a : Answer). and_then a (Ok (opened_quotients k e noise))) answer; out_after = kept }
 
 pub slice_bounds-open_sealed-end-2 : goal.slice_bounds-open_sealed-end-2
 slice_bounds-open_sealed-end-2 c =
@@ -70,12 +69,8 @@ returns c =
     let noise = args.noise.now in
     let old = args.out.now in
     let fits : leb 5 (length k) && eqb (length e) 4133 && eqb (length noise) 1536 && eqb (length old) 16 ≡ true = left.if-not-fits.false in
-    let checked = opened.open_sealed.ensures.answer_value in
-    let quotients = opened.open_sealed.ensures.quotients_value in
-    let written = opened.open_sealed.ensures.out_after in
-    let answer =
-    checked
-    ∙ ap (λ (x : Answer). opened_by (secret_answer k) x (opened_outcome k e noise) (body_part e) (tag_part e)) (entry-front e)
+    let front = ap (λ (x : Answer). opened_by (secret_answer k) x (opened_outcome k e noise) (body_part e) (tag_part e)) (entry-front e)
     ∙ sym (ap (λ (b : Bool). unless b WrongLength (whole k e noise)) fits) in
-    let out = written ∙ ap (λ (a : Answer). on_done a (opened_entry (opened_outcome k e noise) (body_part e)) old) answer in
-    let w = quotients ∙ sym (ap (λ (b : Bool). cond b (opened_quotients k e noise) (replicate 1024 (pos 0))) fits) in record { answer_value = answer; quotients_value = w; out_after = out }
+    let answer = opened.open_sealed.ensures.value ∙ ap (λ (a : Answer). and_then a (Ok (opened_quotients k e noise))) front in
+    let out = opened.open_sealed.ensures.out_after ∙ ap (λ (a : Answer). on_done a (opened_entry (opened_outcome k e noise) (body_part e)) old) front in
+    record { value = answer; out_after = out }

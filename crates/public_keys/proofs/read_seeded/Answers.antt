@@ -1,33 +1,33 @@
-use mathlib.Core.Path.{◌≡◌, sym, ap, ◌∙◌}
+use mathlib.Core.Path.{◌≡◌, sym, ◌∙◌}
 use mathlib.Core.Bool.{true}
+use mathlib.Core.List.{List}
 use Prim.Native.Nat.{ℕ}
-use lib.Dec.{eqb}
 use lib.ListN.{length}
 use borrow.Author.Tests.{eq-eqb}
-use Rattle.answers.specs.declared.Refusal.TheVariants.{StreamExhausted}
-use Rattle.answers.specs.declared.Answer.TheVariants.{Done}
-use Rattle.answers.specs.Answers.{unless}
+use Rattle.std.proofs.Common.{rules}
+use Rattle.answers.proofs.AnswerLaws.{given-done, given-refused}
 use Rattle.records.specs.Layout.{seeded_key_length}
-use Rattle.records.proofs.Checks.{seeded_checked}
-use Rattle.public_keys.specs.PublicKeys.{is_seeded_key}
-use Rattle.public_keys.proofs.EitherKind.{seeded-a, seeded_b_lem, seeded-record, seeded-stream}
+use Rattle.public_keys.specs.PublicKeys.{is_seeded_key, public_a, public_b, public_record_answer, public_stream_answer}
 use Rattle.public_keys.proofs.read_seeded.Goals as goal
 
+-- the length picks the record
+seeded : (k : List ℕ) → length k ≡ seeded_key_length → is_seeded_key k ≡ true
+seeded k size = eq-eqb (length k) seeded_key_length size
+
+pub returns-in_err-b : goal.returns-in_err-b
+unfolding public_record_answer
+returns-in_err-b c =
+    let h = given-refused _ (sym c.in_err-b.was ∙ c.read_seeded_key.ensures) in
+    search (rules, seeded _ c.requires, h)
+
+pub returns-in_err-unless : goal.returns-in_err-unless
+unfolding public_record_answer public_stream_answer
+returns-in_err-unless c =
+    let h = given-done (sym c.in_ok-b.was ∙ c.read_seeded_key.ensures) in
+    search (rules, seeded _ c.requires, h.0, h.1)
+
 pub returns : goal.returns
+unfolding public_record_answer public_stream_answer public_a public_b
 returns c =
-    let enough = c in
-    let expanded = enough in
-    let checked = expanded in
-    let read = checked in
-    let start = read in
-    let k = start.args.bytes.now in
-    let kind : is_seeded_key k ≡ true = eq-eqb (length k) seeded_key_length start.requires in
-    let header = read.read_seeded_key-read.ensures.header_value in
-    let (b, place) = read.read_seeded_key-read.ensures.b_value in
-    let (count, a) = expanded.element-u.ensures in record {
-      record_value = (
-        seeded_checked k header place checked.record_answer-record.ensures ∙ sym (seeded-record k kind),
-        enough.unless-stream.ensures ∙ ap (λ (i : ℕ). unless (eqb i 1024) StreamExhausted Done) count ∙ sym (seeded-stream k kind),
-      );
-      a_value = (a ∙ sym (seeded-a k kind), b ∙ sym (seeded_b_lem k kind));
-    }
+    let h = given-done (sym c.in_ok-b.was ∙ c.read_seeded_key.ensures) in
+    search (rules, seeded _ c.requires, h.0, h.1)

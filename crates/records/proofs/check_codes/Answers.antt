@@ -2,8 +2,7 @@ use mathlib.Core.Path.{ap, ◌∙◌}
 use Prim.Native.Nat.{ℕ}
 use lib.Dec.{eqb}
 use Rattle.answers.specs.declared.Refusal.TheVariants.{InvalidCode}
-use Rattle.answers.specs.declared.Answer.TheVariants.{Done}
-use Rattle.answers.specs.Answers.{unless}
+use Rattle.answers.specs.Answers.{unless, Done}
 use Rattle.records.specs.Records.{codes_answer}
 use Rattle.records.proofs.check_codes.Goals as goal
 

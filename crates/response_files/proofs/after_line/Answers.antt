@@ -17,7 +17,6 @@ returns-then-n-text c =
 pub returns : goal.returns
 unfolding after_line
 returns c =
-    let called = c in
-    let text = called.args.text.now in
-    let past : length text ≤ first_failing in_line text + 1 = omega (arith, called.line_feed-n.ensures) in
+    let text = c.args.text.now in
+    let past : length text ≤ first_failing in_line text + 1 = omega (arith, c.line_feed-n.ensures) in
     sym (drop_of_length-le text past)

@@ -4,17 +4,17 @@ use Rattle.response_files.proofs.Lines.{after-within}
 use Rattle.response_files.proofs.Headers.{preamble-some, body_more, body-here}
 use Rattle.response_files.proofs.body.Goals as goal
 
-pub loop-next-smaller : goal.loop-next-smaller
-loop-next-smaller c =
-    let rest = c.loop-next.rest.now in
-    rw c.after_line-next.ensures (omega (arith, after-within rest, preamble-some rest (sym c.is_preamble.ensures ∙ c.loop-next-test.true)))
+pub loop-rest-smaller : goal.loop-rest-smaller
+loop-rest-smaller c =
+    let rest = c.loop-rest.rest.now in
+    rw c.after_line-rest.ensures (omega (arith, after-within rest, preamble-some rest (sym c.is_preamble.ensures ∙ c.loop-rest-test.true)))
 
-pub loop-next-preserved : goal.loop-next-preserved
-loop-next-preserved c =
+pub loop-rest-preserved : goal.loop-rest-preserved
+loop-rest-preserved c =
     let at-loop = c in
-    let rest = at-loop.loop-next.rest.now in
-    rw c.after_line-next.ensures
-    (sym (body_more rest (sym c.is_preamble.ensures ∙ c.loop-next-test.true)) ∙ at-loop.loop-next.invariant)
+    let rest = at-loop.loop-rest.rest.now in
+    rw c.after_line-rest.ensures
+    (sym (body_more rest (sym c.is_preamble.ensures ∙ c.loop-rest-test.true)) ∙ at-loop.loop-rest.invariant)
 
 pub returns : goal.returns
-returns c = sym (body-here c.loop-next.rest.now (sym c.is_preamble.ensures ∙ c.loop-next-test.false)) ∙ c.loop-next.invariant
+returns c = sym (body-here c.loop-rest.rest.now (sym c.is_preamble.ensures ∙ c.loop-rest-test.false)) ∙ c.loop-rest.invariant

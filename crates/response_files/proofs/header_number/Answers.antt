@@ -8,7 +8,7 @@ pub loop-rest-smaller : goal.loop-rest-smaller
 loop-rest-smaller c =
     let tested = c in
     let rest = tested.loop-rest.rest.now in
-    rw c.after_line-next.ensures (omega (arith, after-within rest, preamble-some rest (sym tested.is_preamble.ensures ∙ c.loop-rest-test.true)))
+    rw c.after_line-rest.ensures (omega (arith, after-within rest, preamble-some rest (sym tested.is_preamble.ensures ∙ c.loop-rest-test.true)))
 
 pub loop-rest-preserved : goal.loop-rest-preserved
 loop-rest-preserved c =
@@ -16,7 +16,7 @@ loop-rest-preserved c =
     let rest = tested.loop-rest.rest.now in
     let name = tested.args.name.now in
     let more = number_more rest (sym tested.is_preamble.ensures ∙ c.loop-rest-test.true) name tested.loop-rest.number in
-    rw (c.after_line-next.ensures, c.number_or-found.ensures, c.length_header.ensures) (sym more ∙ tested.loop-rest.invariant)
+    rw (c.after_line-rest.ensures, c.unwrap_or-number.ensures, c.length_header.ensures) (sym more ∙ tested.loop-rest.invariant)
 
 pub returns : goal.returns
 returns c =

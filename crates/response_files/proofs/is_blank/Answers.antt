@@ -1,4 +1,4 @@
-use mathlib.Core.Path.{ap}
+use mathlib.Core.Path.{ap, ◌∙◌}
 use mathlib.Core.List.{List}
 use Prim.Native.Nat.{ℕ, ◌<◌, ◌≤◌}
 use native.Mathlib.Omega.{arith}
@@ -12,14 +12,13 @@ use Rattle.response_files.proofs.is_blank.Goals as goal
 pub returns-then-line_feed-text : goal.returns-then-line_feed-text
 unfolding is_blank
 returns-then-line_feed-text c =
-    let found = c in
-    let text = found.args.text.now in
-    let there : first_failing in_line text < length text = omega (arith, found.line_feed.ensures) in
-    rw (lt-ltb _ _ there) (ap (λ (l : List ℕ). eqb (length l) 0) c.first_line.ensures)
+    let text = c.args.text.now in
+    let there : first_failing in_line text < length text = omega (arith, c.line_feed.ensures) in
+    rw (lt-ltb _ _ there) (c.is_empty.ensures ∙ ap (λ (l : List ℕ). eqb (length l) 0) c.first_line.ensures)
 
-pub returns : goal.returns
+pub returns-else-line_feed-text : goal.returns-else-line_feed-text
 unfolding is_blank
-returns c =
+returns-else-line_feed-text c =
     let text = c.args.text.now in
     let none : length text ≤ first_failing in_line text = omega (arith, c.line_feed.ensures) in
-    rw (le-ltb _ _ none)
+    rw (le-ltb _ _ none, le-ltb _ _ c.if-line_feed-text.false)

@@ -1,43 +1,20 @@
-use mathlib.Core.Path.{◌≡◌, sym, ap, ◌∙◌}
-use Prim.Native.Nat.{◌≤◌}
-use lib.ListN.{length, drop}
-use mathlib.Core.Bool.{true, false}
-use Rattle.lists.proofs.Parts.{take-to-end}
-use Rattle.response_files.specs.Lines.{line_of, starts_with}
-use Rattle.response_files.proofs.Lines.{starts-within, value_there, value_none}
+use Rattle.std.proofs.Common.{Bor, List, ℕ, ◌+◌, ◌≡◌, ◌∙◌, ap, [], true, false, cond, length, drop, refl}
+use Rattle.std.specs.Prelude.{Option, Some, None, unwrap_or}
+use Rattle.std.specs.Option.{MatchOption}
+use Rattle.response_files.specs.Lines.{starts_with, value_of}
 use Rattle.response_files.proofs.value.Goals as goal
 
--- the name is not longer than the line that starts with it
-named : (c : goal.Then-starts_with)
-    → length c.args.name.now ≤ length c.first_line-line.result.now
-named c =
-    starts-within c.args.name.now c.first_line-line.result.now
-    (sym c.starts_with.ensures ∙ c.if-starts_with.true)
-
-pub slice_bounds-result-count : goal.slice_bounds-result-count
-slice_bounds-result-count c = named c
-
-pub slice_bounds-result-start : goal.slice_bounds-result-start
-slice_bounds-result-start c = named c
-
-pub returns-then-starts_with : goal.returns-then-starts_with
-returns-then-starts_with c =
-    let called = c in
-    let line = called.first_line-line.result.now in
-    let start = called in
-    let name = start.args.name.now in
-    let text = start.args.text.now in
-    let e : line ≡ line_of text = called.first_line-line.ensures in
-    let t : starts_with name (line_of text) ≡ true = rw e at (sym called.starts_with.ensures ∙ c.if-starts_with.true) in
-    take-to-end (length name) line ∙ ap (drop (length name)) e ∙ sym (value_there text name t)
+stripped : (name line : List ℕ) (none : Bor (List ℕ)) (r : Option (Bor (List ℕ))) → none.now ≡ []
+    → MatchOption r (starts_with name line ≡ false)
+    (λ x. (starts_with name line ≡ true) × (x.now ≡ drop (length name) line) × (length x.now + length name ≡ length line))
+    → (unwrap_or r none).now ≡ cond (starts_with name line) (drop (length name) line) []
+stripped name line none None e h = rw h e
+stripped name line none (Some x) e h = rw h.0 h.1
 
 pub returns : goal.returns
+unfolding value_of
 returns c =
-    let called = c in
-    let line = called.first_line-line.result.now in
-    let start = called in
-    let name = start.args.name.now in
-    let text = start.args.text.now in
-    let e : line ≡ line_of text = called.first_line-line.ensures in
-    let t : starts_with name (line_of text) ≡ false = rw e at (sym called.starts_with.ensures ∙ c.if-starts_with.false) in
-    sym (value_none text name t)
+    let name = c.args.name.now in
+    ap (λ (b : Bor (List ℕ)). b.now) c.unwrap_or.ensures
+    ∙ stripped name c.first_line.result.now _ c.strip_prefix.result refl c.strip_prefix.ensures.cases
+    ∙ ap (λ (line : List ℕ). cond (starts_with name line) (drop (length name) line) []) c.first_line.ensures

@@ -9,6 +9,6 @@ use Rattle.sampling_cases.proofs.noise_agrees.Goals as goal
 pub returns : goal.returns
 returns c =
     let written = c in
-    let drawn = written.ternary-s.ensures in
+    let drawn = written.ternary.ensures in
     let bytes = written.encode_ternary.ensures ∙ put-exact _ _ (length-ternary_bytes _ ∙ size-zeros 256) ∙ ap ternary_bytes drawn in
     c.same.ensures ∙ ap₂ is_same bytes refl

@@ -19,6 +19,6 @@ returns c =
     let w = parts.1 ∙ ap quotients m in
     c.judge.ensures
     ∙ ap₂ (λ (t : Triple) (w : List ℤ). answer (judged (triple_of args.dummy) t) w)
-    (c.recover.ensures
+    (c.recover-t.ensures
     ∙ ap (recovered (coefficients_of args.a) (coefficients_of args.inverse) (coefficients_of args.sums.first) (coefficients_of args.sums.second)) e2)
     w

@@ -11,6 +11,6 @@ returns c =
     let args = start.args in
     let t = args.t in
     let size : length t.r ≡ 1024 = search (rules, start.well_formed.1.1.0) in (
-      masked_by-spectra args.a t.r t.e1 _ _ _ size transformed.forward-r_spectrum.ensures c.product_of_spectra.ensures c.sum-c1.ensures,
-      masked_by-spectra args.b t.r t.e2 _ _ _ size transformed.forward-r_spectrum.ensures c.product_of_spectra-2.ensures c.sum-c2.ensures,
+      masked_by-spectra args.key.a t.r t.e1 _ _ _ size transformed.forward-r_spectrum.ensures c.product_of_spectra.ensures c.sum-c1.ensures,
+      masked_by-spectra args.key.b t.r t.e2 _ _ _ size transformed.forward-r_spectrum.ensures c.product_of_spectra-2.ensures c.sum-c2.ensures,
     )

@@ -1,6 +1,5 @@
 use mathlib.Core.Path.{refl, sym, ap, ◌∙◌}
-use Rattle.answers.specs.declared.Answer.{Answer}
-use Rattle.answers.specs.Answers.{on_done}
+use Rattle.answers.specs.Answers.{on_done, Answer}
 use Rattle.calls.specs.Calls.{seal_answer, seal_out}
 use Rattle.seal_entry_output.specs.SealEntry.{key_part, noise_part, entry_part, sealed_entry}
 use Rattle.seal_entry_output.proofs.Printing.{answer_by_length, behind_key_lem}

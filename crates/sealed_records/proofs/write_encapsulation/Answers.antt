@@ -16,12 +16,12 @@ unfolding encapsulation_bytes
 returns c =
     let start = c in
     let old = start.args.out.now in
-    let c1 = element_bytes start.args.c1 in
-    let c2 = element_bytes start.args.c2 in
+    let c1 = element_bytes start.args.c.c1 in
+    let c2 = element_bytes start.args.c.c2 in
     let size : length old ≡ 4096 = start.requires in
     let first =
-    argument_is (λ (x : List ℕ). put_front (element_bytes x) (take 2048 old)) _ start.args.c1
+    argument_is (λ (x : List ℕ). put_front (element_bytes x) (take 2048 old)) _ start.args.c.c1
     c.encode_element.ensures refl in
-    put-part c1 c2 old _ 2048 2048 (put_first c1 old 2048 (length-element_bytes start.args.c1) (omega arith) first)
-    (length-element_bytes start.args.c1) (length-element_bytes start.args.c2) refl (omega arith) c.encode_element-2.ensures
+    put-part c1 c2 old _ 2048 2048 (put_first c1 old 2048 (length-element_bytes start.args.c.c1) (omega arith) first)
+    (length-element_bytes start.args.c.c1) (length-element_bytes start.args.c.c2) refl (omega arith) c.encode_element-2.ensures
     ∙ put_all (c1 ++ c2) old 4096 (omega arith)

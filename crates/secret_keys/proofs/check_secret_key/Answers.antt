@@ -1,36 +1,39 @@
-use mathlib.Core.Path.{◌≡◌, refl, sym, ◌∙◌}
-use Rattle.answers.specs.declared.Answer.TheVariants.{Done}
-use Rattle.secret_keys.specs.SecretKeys.{is_expanded, layout_answer}
-use Rattle.secret_keys.proofs.Checks.{layout-size, layout_long}
-use Rattle.secret_keys.proofs.Joined.{content_joined, says_as, says_refused}
+use mathlib.Core.Path.{sym, ap, ◌∙◌}
+use Rattle.std.proofs.Common.{rules}
+use Rattle.std.proofs.lemmas.Result.{err_from_is_err_and}
+use Rattle.std.specs.Prelude.{Err}
+use Rattle.answers.proofs.AnswerLaws.{given-done, given-refused}
+use Rattle.secret_keys.proofs.Checks.{layout-size}
+use Rattle.secret_keys.proofs.Joined.{layout-refused, parts-refused, unit-refused, matched, inverse-said, matches-said}
 use Rattle.secret_keys.proofs.check_secret_key.Goals as goal
 
-pub read_shared-read-requires : goal.read_shared-read-requires
-read_shared-read-requires c =
-    let read = c in
-    let start = read in record { secret_key_length_in_bounds = layout_long start.args.bytes.now (sym read.check_layout-layout.ensures ∙ c.in-Done.is); forward_value = start.requires }
+pub returns-in_err-check_layout : goal.returns-in_err-check_layout
+returns-in_err-check_layout c =
+    let refused = layout-refused c.args.bytes.now (sym c.check_layout.ensures ∙ c.in_err-check_layout.was) in
+    search (rules, refused)
 
-pub check_unit-unit-requires : goal.check_unit-unit-requires
-check_unit-unit-requires c =
-    let shared = c in
-    let read = shared in
-    let start = read in
-    let (a, b, s) = shared.read_shared-read.ensures.a_value in
-    (layout-size start.args.bytes.now (sym read.check_layout-layout.ensures ∙ shared.in-Done.is), b, start.requires.0)
+pub read_parts-requires : goal.read_parts-requires
+read_parts-requires c = layout-size c.args.bytes.now (sym c.check_layout.ensures ∙ c.in_ok-check_layout.was)
 
-pub returns-in-Done : goal.returns-in-Done
-returns-in-Done c =
-    let unit = c in
-    let shared = unit in
-    let read = shared in
-    let k = read.args.bytes.now in
-    let passed : layout_answer k ≡ Done = sym read.check_layout-layout.ensures ∙ shared.in-Done.is in
-    let (pair, codes, matches) = shared.read_shared-read.ensures.words_value in
-    let spectra = shared.read_shared-read.ensures.a_value in
-    let (stored, found) = unit.check_unit-unit.ensures in
-    says_as k (is_expanded k) refl passed (content_joined k (is_expanded k) pair stored c.and_then-words.ensures codes found matches c.content_answer.ensures)
+pub returns-in_err-parts : goal.returns-in_err-parts
+returns-in_err-parts c =
+    let layout = sym c.check_layout.ensures ∙ c.in_ok-check_layout.was in
+    let refused = parts-refused c.args.bytes.now layout (given-refused _ (sym c.in_err-parts.was ∙ c.read_parts.ensures)) in
+    search (rules, refused)
+
+pub returns-in_err-check_inverse : goal.returns-in_err-check_inverse
+returns-in_err-check_inverse c =
+    let k = c.args.bytes.now in
+    let layout = sym c.check_layout.ensures ∙ c.in_ok-check_layout.was in
+    let parts = given-done (sym c.in_ok-parts.was ∙ c.read_parts.ensures) in
+    let unit = sym (inverse-said k parts.1 c.check_key-checked.ensures.a_value.1) ∙ sym c.check_inverse.ensures ∙ c.in_err-check_inverse.was in
+    let p = err_from_is_err_and c.from_residual-in_err-check_inverse.result c.from_residual-in_err-check_inverse.ensures.1 in
+    p.1 ∙ ap Err p.2 ∙ sym (unit-refused k layout parts.0 unit)
 
 pub returns : goal.returns
 returns c =
-    let read = c in
-    says_refused read.args.bytes.now read.check_layout-layout.ensures c.in_default.is
+    let k = c.args.bytes.now in
+    let layout = sym c.check_layout.ensures ∙ c.in_ok-check_layout.was in
+    let parts = given-done (sym c.in_ok-parts.was ∙ c.read_parts.ensures) in
+    let unit = sym (inverse-said k parts.1 c.check_key-checked.ensures.a_value.1) ∙ sym c.check_inverse.ensures ∙ c.in_ok-check_inverse.was in
+    c.unless.ensures ∙ matches-said k parts.1 c.check_key-checked.ensures.matches_value ∙ sym (matched k layout parts.0 unit)

@@ -1,38 +1,53 @@
-use mathlib.Core.Path.{◌≡◌, refl, sym, ◌∙◌}
-use Rattle.answers.specs.declared.Answer.TheVariants.{Done}
-use Rattle.secret_keys.specs.SecretKeys.{is_expanded, layout_answer}
-use Rattle.secret_keys.proofs.Checks.{layout-size, layout_long}
-use Rattle.secret_keys.proofs.Joined.{content_joined, read_as, read_nothing}
+use mathlib.Core.Path.{sym, ap, ◌∙◌}
+use Rattle.std.proofs.Common.{rules}
+use Rattle.std.proofs.lemmas.Result.{err_from_is_err_and}
+use Rattle.std.specs.Prelude.{Ok, Err}
+use Rattle.answers.proofs.AnswerLaws.{given-done, given-refused, then-failed}
+use Rattle.secret_keys.specs.SecretKeys.{elements_of}
+use Rattle.secret_keys.specs.Read.{spectra_of}
+use Rattle.secret_keys.proofs.Checks.{layout-size}
+use Rattle.secret_keys.proofs.Joined.{layout-refused, parts-refused, unit-refused, matched, inverse-by, matches-said, spectra-read}
 use Rattle.secret_keys.proofs.read_secret_key.Goals as goal
 
-pub read_shared-read-requires : goal.read_shared-read-requires
-read_shared-read-requires c =
-    let read = c in
-    let start = read in record { secret_key_length_in_bounds = layout_long start.args.bytes.now (sym read.check_layout-layout.ensures ∙ c.in-Done.is); forward_value = start.requires }
+pub returns-in_err-check_layout : goal.returns-in_err-check_layout
+returns-in_err-check_layout c =
+    let refused = layout-refused c.args.bytes.now (sym c.check_layout.ensures ∙ c.in_err-check_layout.was) in
+    search (rules, refused)
 
-pub read_unit-unit-requires : goal.read_unit-unit-requires
-read_unit-unit-requires c =
-    let shared = c in
-    let read = shared in
-    let start = read in
-    let (a, b, s) = shared.read_shared-read.ensures.a_value in
-    (layout-size start.args.bytes.now (sym read.check_layout-layout.ensures ∙ shared.in-Done.is), b, start.requires.0)
+pub read_parts-requires : goal.read_parts-requires
+read_parts-requires c = layout-size c.args.bytes.now (sym c.check_layout.ensures ∙ c.in_ok-check_layout.was)
 
-pub returns-in-Done : goal.returns-in-Done
-returns-in-Done c =
-    let unit = c in
-    let shared = unit in
-    let read = shared in
-    let k = read.args.bytes.now in
-    let passed : layout_answer k ≡ Done = sym read.check_layout-layout.ensures ∙ shared.in-Done.is in
-    let (pair, codes, matches) = shared.read_shared-read.ensures.words_value in
-    let spectra = shared.read_shared-read.ensures.a_value in
-    let (stored, found, inverse) = unit.read_unit-unit.ensures in
-    let all = read_as k (is_expanded k) refl passed (content_joined k (is_expanded k) pair stored c.and_then-words.ensures codes found matches c.content_answer.ensures) spectra inverse in
-    record { answer_value = all.0; a_value = all.1 }
+pub returns-in_err-parts : goal.returns-in_err-parts
+returns-in_err-parts c =
+    let layout = sym c.check_layout.ensures ∙ c.in_ok-check_layout.was in
+    let refused = parts-refused c.args.bytes.now layout (given-refused _ (sym c.in_err-parts.was ∙ c.read_parts.ensures)) in
+    search (rules, refused)
+
+pub returns-in_err-inverse : goal.returns-in_err-inverse
+returns-in_err-inverse c =
+    let k = c.args.bytes.now in
+    let layout = sym c.check_layout.ensures ∙ c.in_ok-check_layout.was in
+    let parts = given-done (sym c.in_ok-parts.was ∙ c.read_parts.ensures) in
+    let unit = given-refused _ (sym c.in_err-inverse.was ∙ c.read_inverse.ensures ∙ inverse-by k parts.1 c.check_key-key.ensures.a_value.1) in
+    let p = err_from_is_err_and c.from_residual-in_err-inverse.result c.from_residual-in_err-inverse.ensures.1 in
+    p.1 ∙ ap Err p.2 ∙ sym (then-failed (Ok (spectra_of (elements_of k))) (unit-refused k layout parts.0 unit))
+
+pub returns-in_err-unless : goal.returns-in_err-unless
+returns-in_err-unless c =
+    let k = c.args.bytes.now in
+    let layout = sym c.check_layout.ensures ∙ c.in_ok-check_layout.was in
+    let parts = given-done (sym c.in_ok-parts.was ∙ c.read_parts.ensures) in
+    let unit = given-done (sym c.in_ok-inverse.was ∙ c.read_inverse.ensures ∙ inverse-by k parts.1 c.check_key-key.ensures.a_value.1) in
+    let refused = matched k layout parts.0 unit.0 ∙ sym (c.unless.ensures ∙ matches-said k parts.1 c.check_key-key.ensures.matches_value) ∙ c.in_err-unless.was in
+    search (rules, refused)
 
 pub returns : goal.returns
 returns c =
-    let read = c in
-    let all = read_nothing read.args.bytes.now read.check_layout-layout.ensures c.in_default.is in
-    record { answer_value = all.0; a_value = all.1 }
+    let k = c.args.bytes.now in
+    let layout = sym c.check_layout.ensures ∙ c.in_ok-check_layout.was in
+    let parts = given-done (sym c.in_ok-parts.was ∙ c.read_parts.ensures) in
+    let key = c.check_key-key.ensures in
+    let unit = given-done (sym c.in_ok-inverse.was ∙ c.read_inverse.ensures ∙ inverse-by k parts.1 key.a_value.1) in
+    let done = matched k layout parts.0 unit.0 ∙ sym (c.unless.ensures ∙ matches-said k parts.1 key.matches_value) ∙ c.in_ok-unless.was in
+    let spectra = spectra-read k layout parts.1 key.a_value unit.1 in
+    search (rules, done, spectra)

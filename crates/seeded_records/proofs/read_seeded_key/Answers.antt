@@ -1,12 +1,16 @@
-use mathlib.Core.Path.{refl, ap, ◌∙◌}
-use Rattle.encoding.specs.Words.{element_of, first_unreduced}
-use Rattle.records.specs.Layout.{element_length, seeded_b_place}
-use Rattle.records.specs.Records.{part}
-use Rattle.records.proofs.Writing.{argument_is}
+use Rattle.std.proofs.Common.{rules}
+use Rattle.answers.specs.Answers.{and_then}
+use Rattle.records.specs.Records.{seeded_record_answer, words_answer}
 use Rattle.seeded_records.proofs.read_seeded_key.Goals as goal
 
+pub returns-in_err-check_header : goal.returns-in_err-check_header
+unfolding seeded_record_answer
+returns-in_err-check_header c = search rules
+
+pub returns-in_err-place_answer : goal.returns-in_err-place_answer
+unfolding seeded_record_answer words_answer
+returns-in_err-place_answer c = search rules
+
 pub returns : goal.returns
-returns c =
-    let read = c in
-    let bytes = read.args.bytes.now in
-    let b = argument_is element_of _ (part seeded_b_place element_length bytes) read.decode_element-b.ensures refl in record { header_value = c.check_header.ensures; b_value = (b, c.first_unreduced.ensures ∙ ap first_unreduced b) }
+unfolding seeded_record_answer words_answer
+returns c = search rules

@@ -16,16 +16,16 @@ unfolding triple_bytes
 returns-then-out-ge-TRIPLE_LENGTH c =
     let start = c in
     let old = start.args.out.now in
-    let a = ternary_bytes start.args.r in
-    let b = ternary_bytes start.args.e1 in
+    let a = ternary_bytes start.args.t.r in
+    let b = ternary_bytes start.args.t.e1 in
     let first =
     put-part [] a old old 0 256 refl refl (length-ternary_bytes _) refl (omega arith)
     c.encode_ternary.ensures in
     let second =
     put-part a b old _ 256 256 first (length-ternary_bytes _) (length-ternary_bytes _) refl (omega arith)
     c.encode_ternary-then-out-ge-TRIPLE_LENGTH.ensures in
-    let front : length (a ++ b) ≡ 512 = omega (arith, length-append a b, length-ternary_bytes start.args.r, length-ternary_bytes start.args.e1) in
-    put-part (a ++ b) (ternary_bytes start.args.e2) old _ 512 256 second front (length-ternary_bytes _) refl (omega arith)
+    let front : length (a ++ b) ≡ 512 = omega (arith, length-append a b, length-ternary_bytes start.args.t.r, length-ternary_bytes start.args.t.e1) in
+    put-part (a ++ b) (ternary_bytes start.args.t.e2) old _ 512 256 second front (length-ternary_bytes _) refl (omega arith)
     c.encode_ternary-then-out-ge-TRIPLE_LENGTH-2.ensures
     ∙ put_front_lem _ old (length-triple_bytes _ _ _) (omega arith) refl
 

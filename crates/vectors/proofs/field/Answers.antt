@@ -12,7 +12,7 @@ returns c =
     let text = begin.args.text.now in
     let at = begin.start-at.result in
     ap₂ (λ (end first : ℕ). take (end - first) (drop first text))
-    (c.lesser-end.ensures ∙ ap (λ (n : ℕ). min n (length text)) c.end_from.ensures)
-    c.lesser-first.ensures
+    (c.min-end.ensures ∙ ap (λ (n : ℕ). min n (length text)) c.end_from.ensures)
+    c.min-first.ensures
     ∙ part_cut (at + 4) (word32 (drop at text)) text
     ∙ ap (λ (n : ℕ). take (word32 (drop n text)) (drop (n + 4) text)) begin.start-at.ensures.0

@@ -19,7 +19,7 @@ loop-k-preserved c =
     let at-loop = c in
     let text = at-loop.args.text.now in (
       search rules,
-      c.lesser-at.ensures
+      c.min-at.ensures
           ∙ ap (λ (n : ℕ). min n (length text)) (c.end_from.ensures ∙ ap (λ (at : ℕ). end_from at text) at-loop.loop-k.invariant.1)
           ∙ start-next at-loop.loop-k.k text,
     )

@@ -1,4 +1,0 @@
-use Rattle.sealed_records.proofs.words_answer.Goals as goal
-
-pub returns : goal.returns
-returns c = c.places_answer.ensures

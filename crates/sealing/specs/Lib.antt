@@ -1,0 +1,2 @@
+-- What the parts of sealing give.
+pub mod Parts
