@@ -165,11 +165,6 @@ names_either (Err r) b some = (λ e. inl e, ⊎_elim (λ e. e) (λ (p, e). absur
 pub on_done_lem : {A : Type 0} {a : Answer} (new old : A) → a ≡ Done → on_done a new old ≡ new
 on_done_lem new old e = rw e
 
--- a value beside an answer, written by the same answer
-pub on-done_once : {A : Type 0} (a : Answer) (new none old : A) → on_done a (on_done a new none) old ≡ on_done a new old
-on-done_once (Ok _) new none old = refl
-on-done_once (Err r) new none old = refl
-
 -- under any other number nothing has changed
 pub on_refusal : {A : Type 0} (a : Answer) (new old : A) → ¬ (number a ≡ 0) → on_done a new old ≡ old
 on_refusal (Ok _) new old other = absurd (other refl)

@@ -39,6 +39,7 @@ fn entries_agree(text: &[u8], count: u32, after: &[u8]) -> bool
     is_kept(text, count, after)
 }
 
+// Entries of a batch that was refused are none: the number 0, as in the definition.
 fn opened_agrees(text: &[u8], opened: Result<u32, Refusal>, after: &[u8]) -> bool
     ensures { result ≡ opened_agrees text.now opened after.now }
 {

@@ -13,7 +13,6 @@ use Rattle.answers.specs.declared.EncapsulationRecord.TheVariants.{SealedEntry}
 use Rattle.answers.specs.declared.Refusal.{Refusal}
 use Rattle.answers.specs.declared.Refusal.TheVariants.{WrongLength, WrongCount}
 use Rattle.answers.specs.Answers.{unless, and_then, on_done, Answer}
-use Rattle.answers.proofs.AnswerLaws.{on-done_once}
 use Rattle.records.specs.Layout.{header_length, sealed_entry_mark}
 use Rattle.records.specs.Records.{header_answer, c1_word, c2_word, elements_answer, first_of, second_of}
 use Rattle.batch_records.specs.Batches.{body_place, batch_overhead, batch_length, entries_length, count_of, count_block, is_count, batch_body, batch_tag, tagged_blocks, batch_answer}
@@ -131,13 +130,6 @@ module _ (k batch noise : List ℕ) (room : ℕ) where
   pub count_by : (lent : ℕ) {a : Answer} → a ≡ open_batch_answer k batch noise room → on_done a (count_of batch) lent ≡ open_batch_count k batch noise room lent
   unfolding open_batch_count
   count_by lent e = ap (λ (a : Answer). on_done a (count_of batch) lent) e
-
-  -- the number that is lent for it, from the count beside the answer
-  pub count-written : (lent : ℕ) {a : Answer} {m : ℕ} → a ≡ open_batch_answer k batch noise room → m ≡ open_batch_count k batch noise room 0
-      → on_done a m lent ≡ open_batch_count k batch noise room lent
-  unfolding open_batch_count
-  count-written lent ea em =
-      ap₂ (λ (a : Answer) (m : ℕ). on_done a m lent) ea em ∙ on-done_once (open_batch_answer k batch noise room) (count_of batch) 0 lent
 
 -- the output by what is said
 pub out_by : (k batch noise out : List ℕ) {a : Answer} → a ≡ open_batch_answer k batch noise (length out)

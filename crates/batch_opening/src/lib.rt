@@ -1,5 +1,5 @@
-// The call of a desk that opens a batch (document 02, No. 4), which is lent a secret key. Buffers may have any length; under any answer but
-// Done the output is as it came, and under Done what stands behind the entries.
+// The call of a desk that opens a batch (document 02, No. 4), which is lent a secret key. Buffers may have any length; under a refusal the
+// output is as it came, and else what stands behind the entries.
 #![tactic(auto)]
 
 ghost use Rattle.std.specs.Prelude.{◌≡◌, ◌≤◌, length};

@@ -44,8 +44,7 @@ pub fn count_block(m: usize) -> [u8; BLOCK_LENGTH]
     ensures { result ≡ count_block m }
 {
     let mut l = [0u8; BLOCK_LENGTH];
-    l[0] = (m % 256) as u8;
-    l[1] = (m / 256 % 256) as u8;
+    l[..2].copy_from_slice(&m.to_le_bytes()[..2]);
     l
 }
 
@@ -72,7 +71,8 @@ pub fn count_answer(m: usize, size: usize) -> Answer
     )
 }
 
-// How many bytes the body of a batch has, none where its length does not fit the count. It lies within the batch.
+// How many bytes the body of a batch has, 0 where its length does not fit the count: then the body is empty, and the
+// call refuses by `count_answer`, in its turn. It lies within the batch.
 pub fn body_length(m: usize, size: usize) -> usize
     requires { (m ≤ 65535) × (batch_overhead ≤ size) }
     ensures value { result ≡ body_length m size }

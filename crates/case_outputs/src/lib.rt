@@ -12,6 +12,8 @@ use answers::{Answer, Location};
 // What fills an output before the call.
 pub const FILLER: u8 = 165;
 
+// As much as the output of a case may have. The files of cases themselves have a buffer of another size (`vectors::file_buffer`). Each kind of case
+// takes its buffer and its room in three lines; a closure would be no plainer.
 pub fn output_buffer() -> [u8; 65536]
     ensures { result ≡ zeros 65536 }
 {

@@ -97,7 +97,8 @@ pub fn under_keystream(k0: [u8; BLOCK_LENGTH], text: &[u8], out: &mut [u8])
     gf128::add_to(text, out);
 }
 
-// ---- entries; the tag is that of the blocks in `front`, of which a single entry has none, and of the body
+// ---- entries; the tag is that of the blocks in `front`, of which a single entry has none, and of the body. That `front` is whole blocks is a clause, as
+// in `gf128::tag`: a type of whole blocks would ask more of those who lend bytes.
 
 // Writes the body of an entry, and gives the tag.
 pub fn protect(t: Triple, front: &[u8], entry: &[u8], body: &mut [u8]) -> [u8; BLOCK_LENGTH]

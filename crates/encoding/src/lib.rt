@@ -35,7 +35,7 @@ pub fn word(low: u8, high: u8) -> u16
     u16::from_le_bytes([low, high])
 }
 
-// The first 1,024 words, reduced or not.
+// The first 1,024 words, reduced or not. A closure for `from_fn` would have to ask at every word where the bytes end; the loop ends there.
 pub fn decode_element(bytes: &[u8]) -> Element
     ensures { result ≡ element_of bytes.now }
 {
@@ -76,7 +76,7 @@ pub fn coefficient(code: u8) -> u16
     (code == 1) as u16 + MINUS_ONE * ((code == 2) as u16)
 }
 
-// The coefficients of the first 256 bytes, whatever the codes are.
+// The coefficients of the first 256 bytes, whatever the codes are: four a byte, so no `from_fn`.
 pub fn decode_ternary(bytes: &[u8]) -> Element
     ensures { result ≡ ternary_of bytes.now }
 {
@@ -97,7 +97,7 @@ pub fn decode_ternary(bytes: &[u8]) -> Element
     t
 }
 
-// The place of the first code 3 in a byte, and 4 where there is none.
+// The place of the first code 3 in a byte, and 4 where there is none: the definition `first_invalid` of one byte, and so a number too.
 fn invalid_in(b: u8) -> usize
     ensures { result ≡ first_invalid 1 (b ∷ []) }
 {
@@ -121,9 +121,8 @@ fn invalid_in(b: u8) -> usize
 pub fn first_invalid_code(bytes: &[u8]) -> usize
     ensures { result ≡ first_invalid_code bytes.now }
 {
-    let count = bytes.len().min(TERNARY_LENGTH);
-    for i in 0..count {
-        let j = invalid_in(bytes[i]);
+    for (i, b) in bytes.iter().take(TERNARY_LENGTH).enumerate() {
+        let j = invalid_in(*b);
         if j < 4 {
             return 4 * i + j;
         }

@@ -77,7 +77,8 @@ pub fn sealed_entry(c1: u16, c2: u16) -> [u8; SEALED_ENTRY_LENGTH]
 
 // ---- streams
 
-// A stream whose first words are of the bytes low and high, and the others zero.
+// A stream whose first words are of the bytes low and high, and the others zero. By index: what a slice ends as whose chunks of two bytes were
+// written, the library's contracts do not say.
 pub fn stream(words: usize, low: u8, high: u8) -> [u8; STREAM_LENGTH]
     requires { words ≤ 1344 }
     ensures { result ≡ stream words low high }

@@ -99,10 +99,8 @@ fn fold(k: Element, start: Element, blocks: &[u8]) -> Element
     ensures { value result ≡ number (folded (bytes 16 (value k)) (bytes 16 (value start)) (length blocks.now / 16) blocks.now) }
 {
     let mut r = start;
-    let m = blocks.len() / 16;
-    for i in 0..m {
-        let at = 16 * i;
-        let added = add(r, load(&blocks[at..at + 16]));
+    for block in blocks.chunks_exact(16) {
+        let added = add(r, load(block));
         r = mul(k, added);
     }
     r

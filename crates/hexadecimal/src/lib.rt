@@ -34,7 +34,8 @@ fn count_digits(text: &[u8]) -> usize
         .unwrap_or(text.len())
 }
 
-// Fills a buffer that the text of the bytes fills, or part of it.
+// Fills a buffer that the text of the bytes fills, or part of it. By index, as the next: of what an adapter of `iter_mut` has written, the
+// library's contracts say nothing.
 fn put_text(bytes: &[u8], out: &mut [u8])
     requires { length out.old ≤ 2 * length bytes.now }
     ensures { out.new ≡ take (length out.old) (text_of bytes.now) }

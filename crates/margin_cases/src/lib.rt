@@ -18,6 +18,7 @@ fn margin_agrees(text: &[u8], margin: u32) -> bool
     (vectors::field(text, 6).len() == 0) & (margin == 0)
 }
 
+// A margin that was not given is 0, as in the definition. It shares no comparison with that of `batch_cases`, so they stay two.
 fn opened_agrees(text: &[u8], opened: Result<u32, Refusal>, after: &[u8]) -> bool
     ensures { result ≡ opened_agrees text.now opened after.now }
 {

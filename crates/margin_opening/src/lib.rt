@@ -1,5 +1,5 @@
 // The service call of a desk (document 02, No. 7): it opens a sealed entry and tells how far the link is from its edge. Buffers may have any
-// length; under any answer but Done the output is as it came.
+// length; under a refusal the output is as it came.
 #![tactic(auto)]
 
 ghost use Rattle.std.specs.Prelude.{◌≡◌, length};

@@ -1,4 +1,5 @@
-// Arithmetic modulo q = 59,393. Every u16 is taken, as its residue, but where a name or a contract says reduced; every result is below q.
+// Arithmetic modulo q = 59,393. Every u16 is taken, as its residue, but where a name or a contract says reduced; every result is below q. A word
+// that is reduced stays a word with a clause: arrays of words go through the transform, which takes any words.
 #![tactic(auto)]
 
 ghost use Rattle.std.specs.Prelude.{◌≡◌, ◌*◌, ◌/◌, ◌%◌, ◌<◌, ◌≤◌};
@@ -91,8 +92,8 @@ pub fn montgomery_form(x: u16) -> u16
 
 // ---- reciprocals
 
-// The reciprocal of x modulo q, and 0 where there is none. For the residue y of x, q = y × (q / y) + q % y, so the reciprocal
-// of y is - (q / y) times that of q % y, and the residues fall.
+// The reciprocal of x modulo q, and 0 where there is none: a number, as the definition `reciprocal_of` has it, and the tree of products needs. For the
+// residue y of x, q = y × (q / y) + q % y, so the reciprocal of y is - (q / y) times that of q % y, and the residues fall.
 pub fn reciprocal(x: u16) -> u16
     ensures { result ≡ reciprocal_of x }
 {

@@ -84,6 +84,8 @@ fn judge_message(function: Function, text: &[u8], bytes: usize, size: usize) -> 
 
 // ---- cases
 
+// What a file is of. The program names it for each file, and definitions are by it: closures would be no plainer. Function, kind and
+// number go together through two crates as document and section do: each step takes what it reads.
 #[derive(Clone, Copy)]
 pub enum Kind {
     Length,

@@ -18,6 +18,7 @@ pub type Spectrum = [u16; DEGREE];
 
 // The tables of factors stay slices, each with its fact in the contract. `forward` and `backward`, `scheme::check_key`, `core` and `decapsulate`,
 // `secret_keys::read_secret_key` and `recovery::recover` are promised so (docs/PROMISES.md); a type that holds the tables would ask for more.
+// Half the functions one way and half the other would be no plainer.
 
 // ---- coefficients to values
 

@@ -1,4 +1,4 @@
-// Bytes as words and blocks, and how much of what is lent is read: what several crates need and the kit has no function for.
+// Bytes as words and blocks, and how much of what is lent is read: what several crates need, by names that other contracts and docs have.
 #![tactic(auto)]
 
 ghost use Rattle.std.specs.Prelude.{◌≡◌, ◌+◌, ◌≤◌, min, length, get_or};

@@ -85,7 +85,8 @@ fn recover_sealed(
     recovery::recover(k, c, dummy, front, body, t, &forward, &backward)
 }
 
-// Shows the entry once the tag is known, in a buffer of the body's length, and gives the quotients w of step 3.
+// `front`, `body` and `tag` are three parts of a record that its caller cuts (a batch in front and body, a single entry in none): a struct of slices
+// would say no more. Shows the entry once the tag is known, in a buffer of the body's length, and gives the quotients w of step 3.
 pub fn open_sealed(
     key: &[u8],
     sealed: &[u8],

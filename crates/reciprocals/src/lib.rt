@@ -101,7 +101,8 @@ fn lower_half(h: &[u16; TREE]) -> Spectrum
     r
 }
 
-// The reciprocal of every entry; 1,024 zeros where q divides one of them, since the top of the tree is then 0.
+// The reciprocal of every entry; 1,024 zeros where q divides one of them, since the top of the tree is then 0. So it
+// stands in the definition `reciprocals_of`, by which the theorems go; `ring::inverse` makes an option of it.
 pub fn reciprocals(t: Spectrum) -> Spectrum
     ensures { result ≡ reciprocals_of t }
 {

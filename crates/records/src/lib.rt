@@ -1,7 +1,8 @@
 // The records of document 01 and of document 02, No. 2 and 5, as bytes: their layout, what their checks answer, in order, and the front that keys
 // and sealed entries share, read and written. Document 01's keys are written here; seeded_records, sealed_records, batch_records and triples have
 // the other records.
-// The calls test every length first, so the functions here are lent buffers of the record's length.
+// The calls test every length first, so the functions here are lent buffers of the record's length: slices with a clause, since C lends slices of any
+// length, and arrays in their place would ask more.
 #![tactic(auto)]
 
 ghost use Rattle.std.specs.Prelude.{◌≡◌, ◌++◌, ◌≤◌, length, drop};
@@ -85,7 +86,7 @@ pub fn place_answer(place: usize, refusal: Refusal) -> Answer
     answers::unless(place == DEGREE, refusal)
 }
 
-// The place of the first word that is q or more in each of two elements, 1,024 where there is none.
+// The place of the first word that is q or more in each of two elements, 1,024 where there is none, as `encoding::first_unreduced` gives it.
 #[derive(Clone, Copy)]
 pub struct Places {
     pub first: usize,

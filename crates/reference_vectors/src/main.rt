@@ -13,7 +13,7 @@ use std::io;
 use std::rt::Files;
 use vectors::{Report, Verdict};
 
-// What the cases of a file are of.
+// What the cases of a file are of; definitions are by it, so closures would be no plainer.
 #[derive(Clone, Copy)]
 enum Kind {
     CheckSecretKey,

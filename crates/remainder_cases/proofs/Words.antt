@@ -1,37 +1,24 @@
 -- Words in two's complement.
 use mathlib.Core.Path.{◌≡◌, refl, sym, ap, ◌∙◌}
-use Prim.Native.Nat.{ℕ, zero, suc, ◌-◌, ◌≤◌, ◌<◌}
+use Prim.Native.Nat.{ℕ, suc, ◌-◌, ◌^◌}
 use native.Mathlib.Omega.{arith}
-use mathlib.Core.Bool.{Bool, true, false, false≢true}
-use lib.IntN.{ℤ, pos, negsuc, ◌-ℤ◌}
-use lib.Dec.{eqb}
-use borrow.Author.Tests.{eqb-true, eq-eqb, lt-ltb, le-ltb}
+use mathlib.Core.Bool.{Bool, true, false, false≢true, cond}
+use lib.IntN.{ℤ, pos, negsuc}
+use lib.Dec.{eqb, ltb}
+use borrow.Author.Tests.{eqb-true, eq-eqb}
 use mir.Syntax.{w32}
-use mir.Val.{SFits, to_z, of_z}
-use mir.ValLaws.{to_z_pos, to_z-of_z}
+use mir.Val.{SFits, to_z, of_z, to_z as cast_signed, sel}
+use mir.ValLaws.{to_z-of_z}
 use Rattle.remainder_cases.specs.Remainders.{signed, is_same_integer}
 
-pub signed_low : (x : ℕ) → x < 2147483648 → to_z w32 x ≡ signed x
+-- the library's reading of a word as signed
+pub signed-cast : (x : ℕ) → cast_signed w32 x ≡ signed x
 unfolding signed
-signed_low x h = rw (lt-ltb x 2147483648 h)
-
-minus : (y : ℕ) → negsuc 0 -ℤ pos y ≡ negsuc y
-minus zero = refl
-minus (suc y) = ap (λ (k : ℕ). negsuc (suc k)) (omega arith)
-
-module _ (x : ℕ) (high : 2147483648 ≤ x) where
-  abbrev y : ℕ
-  y = 4294967295 - x
-
-  difference : negsuc 0 -ℤ to_z w32 y ≡ negsuc y
-  difference = ap (λ (z : ℤ). negsuc 0 -ℤ z) (to_z_pos w32 y (omega arith)) ∙ minus y
-
-  pub signed-fits : SFits w32 (negsuc 0 -ℤ to_z w32 y)
-  signed-fits = rw difference (record { sfits = omega arith })
-
-  pub signed_high : to_z w32 (of_z w32 (negsuc 0 -ℤ to_z w32 y)) ≡ signed x
-  unfolding signed
-  signed_high = to_z-of_z w32 _ signed-fits ∙ difference ∙ rw (le-ltb x 2147483648 high)
+signed-cast x = by (ltb x 2147483648)
+  where
+    by : (t : Bool) → sel t (pos x) (negsuc (2 ^ 32 - suc x)) ≡ cond t (pos x) (negsuc (4294967295 - x))
+    by true = refl
+    by false = ap negsuc (omega arith)
 
 -- two integers with the same bits
 pub same_bits : (a b : ℤ) → SFits w32 a → SFits w32 b → of_z w32 a ≡ of_z w32 b → a ≡ b

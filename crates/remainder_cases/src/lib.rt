@@ -8,11 +8,7 @@ ghost use Rattle.remainder_cases.specs.Remainders.{signed, integers_agree, remai
 fn signed(x: u32) -> i32
     ensures { result ≡ signed x }
 {
-    if x < 2147483648 {
-        return x as i32;
-    }
-    let y = (4294967295 - x) as i32;
-    -1 - y
+    x.cast_signed()
 }
 
 // Of a word, its centred value m, the remainder r and the quotient k of m.

@@ -36,7 +36,8 @@ fn without_return(line: &[u8]) -> &[u8]
     line.strip_suffix(b"\r").unwrap_or(line)
 }
 
-// The first line without its end; nothing where no line feed follows.
+// The first line without its end; nothing where no line feed follows. No option, here and below: the definitions give the empty string, as of a
+// line that is empty.
 fn first_line(text: &[u8]) -> &[u8]
     ensures { result.now ≡ line_of text.now }
 {
@@ -160,7 +161,7 @@ pub fn body(text: &[u8]) -> &[u8]
     rest
 }
 
-// The length that the last header of a name gives, in bytes; 0 where there is none.
+// The length that the last header of a name gives, in bytes; 0 where there is none, as the definition has it, which that of the report cites.
 pub fn header_number(text: &[u8], name: &[u8]) -> usize
     ensures { result ≡ header_number name.now text.now }
 {

@@ -1,5 +1,6 @@
 // The ring of document 01: polynomials with coefficients modulo q = 59,393 and X^1024 = - 1, as arrays of 1,024 words by value.
-// Every word is taken as its residue modulo q, and the public functions are total. A result is built up from 1,024 zeros.
+// Every word is taken as its residue modulo q, and the public functions are total. A result that is put
+// together place by place is built up from 1,024 zeros.
 // The reciprocals of a spectrum, and the test whether there are any, are those of crate reciprocals.
 #![tactic(auto)]
 

@@ -12,7 +12,7 @@ use encoding::ELEMENT_LENGTH;
 use ntt::{DEGREE, Element, FACTORS};
 use vectors::{Report, Verdict};
 
-// What the cases of a file are of.
+// What the cases of a file are of. The program names it for each file, and definitions are by it: closures would be no plainer.
 #[derive(Clone, Copy)]
 pub enum Kind {
     Products,
@@ -48,7 +48,7 @@ fn product_agrees(text: &[u8], forward: &[u16], backward: &[u16]) -> bool
     (vectors::number(text, 2) == 0) & same_elements(found, expected)
 }
 
-// The number of a case, by whether there is an inverse.
+// The number that a case tells, by whether there is an inverse: that of document 01, since files of cases hold numbers.
 fn inverse_number(exists: bool) -> u32
     ensures { result ≡ inverse_number exists }
 {

@@ -50,7 +50,7 @@ fn noise(t: u8) -> i16
     value as i16
 }
 
-// The values of the first 512 bytes, two a byte. Missing bytes count as zeros.
+// The values of the first 512 bytes, two a byte, so no `from_fn`. Missing bytes count as zeros.
 fn signed_noise(bytes: &[u8]) -> [i16; DEGREE]
     ensures { result ≡ table n (λ k. four_bits (nibble_at bytes.now k)) }
 {
@@ -89,7 +89,8 @@ pub struct UniformSample {
     pub value: Element,
 }
 
-// Reads 16 blocks of 84 words, up to the word that completes the polynomial or to the last whole word of a shorter stream.
+// Reads 16 blocks of 84 words, up to the word that completes the polynomial or to the last whole word of a shorter stream. Two loops, left from
+// inside, are the form that document 01 names ("Forms for parts of the code").
 pub fn uniform(stream: &[u8]) -> UniformSample
     ensures { (result.count ≡ length (taken stream.now)) × (result.value ≡ uniform_element stream.now) }
 {

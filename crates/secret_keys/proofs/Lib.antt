@@ -6,5 +6,5 @@ pub mod SecretLaws
 pub mod VersionLaws
 -- Its elements.
 pub mod ElementLaws
--- For the proofs of the functions: answers that are joined, and what was read.
+-- For the proofs of the functions: answers in their order, and what was read.
 pub mod Joined

@@ -58,7 +58,8 @@ impl<const RATE: usize> Sponge<RATE> {
         string_to_state::words(&b)
     }
 
-    // Algorithm 8, steps 1 to 6, for a message that is padded here. The permutation stands in one place: the compiler then copies no state.
+    // Algorithm 8, steps 1 to 6, for a message that is padded here. By the number of a block, since the last is no chunk of the input. The
+    // permutation stands in one place: the compiler then copies no state.
     fn absorb(self, input: &[u8]) -> [[u64; 5]; 5]
         ensures { result ≡ absorb RATE (padded RATE input.now) }
     {
@@ -72,7 +73,7 @@ impl<const RATE: usize> Sponge<RATE> {
         s
     }
 
-    // Algorithm 8, steps 7 to 10.
+    // Algorithm 8, steps 7 to 10. Blocks by index: of what an iterator over mutable chunks has written, the library's contracts say nothing.
     fn squeeze(self, s: [[u64; 5]; 5], out: &mut [u8])
         ensures { out.new ≡ squeeze RATE s (length out.old) }
     {

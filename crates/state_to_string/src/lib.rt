@@ -5,16 +5,8 @@ ghost use Rattle.std.specs.Prelude.{◌≡◌, ◌≤◌, length, take};
 ghost use Rattle.lists.specs.Table.{table};
 ghost use Rattle.state_to_string.specs.Bytes.{lane_byte, bytes_of};
 
-// Stores a lane as eight bytes.
-fn put_lane(out: &mut [u8], v: u64)
-    requires { length out.old ≡ 8 }
-    ensures { out.new ≡ table 8 (lane_byte v) }
-{
-    out.copy_from_slice(&v.to_le_bytes());
-}
-
 // Stores the first bytes of a lane, as many as `out` has.
-fn put_lane_part(out: &mut [u8], v: u64)
+fn put_lane(out: &mut [u8], v: u64)
     requires { length out.old ≤ 8 }
     ensures { out.new ≡ table (length out.old) (lane_byte v) }
 {
@@ -22,7 +14,8 @@ fn put_lane_part(out: &mut [u8], v: u64)
     out.copy_from_slice(&v.to_le_bytes()[..n]);
 }
 
-// Stores the first bytes of the state's string, as many as `out` has: whole lanes, then what is left.
+// Stores the first bytes of the state's string, as many as `out` has: whole lanes, eight bytes each as the compiler knows, then what is left.
+// By index: of what an iterator over mutable chunks has written, the library's contracts say nothing.
 pub fn put_bytes(s: [[u64; 5]; 5], out: &mut [u8])
     requires { length out.old ≤ 200 }
     ensures { out.new ≡ take (length out.old) (bytes_of s) }
@@ -34,6 +27,6 @@ pub fn put_bytes(s: [[u64; 5]; 5], out: &mut [u8])
     }
     let at = 8 * n;
     if at < out.len() {
-        put_lane_part(&mut out[at..], s[n / 5][n % 5]);
+        put_lane(&mut out[at..], s[n / 5][n % 5]);
     }
 }

@@ -27,6 +27,7 @@ pub const FACTORS: usize = LAYERS * HALF;
 
 // ---- the table of powers
 
+// The one reader of the constant. To name it in `power_forms` is no plainer: the rule of its 1,024 numbers would have no contract of its own.
 fn powers() -> [u16; DEGREE]
     ensures { result ≡ powers_table }
 {
@@ -45,7 +46,9 @@ pub fn scaled(w: u16, a: [u16; DEGREE]) -> [u16; DEGREE]
 
 // ---- the factors of the layers
 
-// Entry m is m with its ten bits in reverse order, from entry m / 2: so a loop, and no `from_fn`. The first factor is ψ^512, since X^1024 + 1 is X^1024 - ψ^1024.
+// Entry m is m with its ten bits in reverse order, from entry m / 2, as the definition `reversed` goes: so a loop, and no `from_fn`; with
+// `reverse_bits`, which turns sixteen bits, a law from sixteen to ten would come on top. The
+// first factor is ψ^512, since X^1024 + 1 is X^1024 - ψ^1024.
 fn exponents() -> [u16; DEGREE]
     ensures { result ≡ table degree (reversed 10) }
 {
@@ -119,6 +122,7 @@ fn layer_factors(w: &mut [u16], f: &[u16], k: usize)
     repeat(w, k);
 }
 
+// Parts by index: of what an adapter of `chunks_exact_mut` has written, the library's contracts say nothing.
 fn pair_factors(w: &mut [u16], f: &[u16])
     requires { (length w.old ≡ 5120) × (length f.now ≡ degree) }
     ensures { w.new ≡ table 5120 (λ i. get_or f.now (block_of (i / 512) (i % 512)) 0) }
@@ -130,7 +134,8 @@ fn pair_factors(w: &mut [u16], f: &[u16])
     }
 }
 
-// A table is written where its caller wants it: as a result it would be copied, and take its room on the stack twice.
+// A table is written where its caller wants it: as a result it would be copied, and take its room on the stack twice. So a caller makes both in four
+// lines; one function that lends them to a closure would be no plainer, since each caller gives something else.
 
 // The table that the transform to values is lent.
 pub fn forward_factors(w: &mut [u16; FACTORS])

@@ -70,11 +70,11 @@ pub fn has_field(text: &[u8], i: usize) -> bool
 pub fn has_sizes(text: &[u8], sizes: &[usize]) -> bool
     ensures { result ≡ is_sized sizes.now text.now }
 {
-    for k in 0..sizes.len() {
+    for (k, size) in sizes.iter().enumerate() {
         if !has_field(text, k) {
             return false;
         }
-        if field(text, k).len() != sizes[k] {
+        if field(text, k).len() != *size {
             return false;
         }
     }
@@ -216,7 +216,8 @@ pub fn judge_cases<J: Fn(&[u8]) -> Verdict>(text: &[u8], fields: usize, judge: J
 
 // ---- files
 
-// 2 MiB of zeros, which hold a file whole.
+// 2 MiB of zeros, which hold a file whole. A function of its own: where a caller has so long a literal itself, the check of that caller ends
+// without a verdict after 90 seconds, for want of more than 1 GiB of stack.
 pub fn file_buffer() -> [u8; 2097152]
     ensures { result ≡ zeros 2097152 }
 {
