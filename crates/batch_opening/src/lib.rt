@@ -26,7 +26,7 @@ fn open_records(key: &[u8], batch: &[u8], noise: &[u8], out: &mut [u8]) -> Resul
     let between = batch_records::count_answer(m, batch.len());
     let size = batch_records::body_length(m, batch.len());
     let l = batch_records::count_block(m);
-    opening::open_sealed(
+    let opened = opening::open_sealed(
         key,
         batch,
         BATCH_VERSION,
@@ -37,6 +37,8 @@ fn open_records(key: &[u8], batch: &[u8], noise: &[u8], out: &mut [u8]) -> Resul
         &batch[BODY + size..BATCH_OVERHEAD + size],
         &mut out[0..size],
     )?;
+    let answer = opened.answer;
+    answer?;
     Ok(m as u32)
 }
 

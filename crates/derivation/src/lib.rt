@@ -3,7 +3,6 @@
 #![tactic(auto)]
 
 ghost use Rattle.std.specs.Prelude.{◌≡◌, ◌∷◌, ◌++◌, ◌%◌, ◌<◌, length};
-ghost use Rattle.std.specs.Bool.{then_some};
 ghost use Rattle.gf128.specs.Bytes.{block};
 ghost use Rattle.triples.specs.Triple.{triple_bytes};
 ghost use Rattle.derivation.specs.Derivation.{key_material, key0, key1, key2, keystream, under_keystream, body_of, tag_of, is_genuine};
@@ -111,18 +110,22 @@ pub fn protect(t: Triple, front: &[u8], entry: &[u8], body: &mut [u8]) -> [u8; B
     gf128::tag(keys.k1, front, body, keys.k2)
 }
 
-// K0, which shows the entry, if the tag is right. Nothing of the entry is worked out here.
-pub fn verify(
-    t: Triple,
-    front: &[u8],
-    body: &[u8],
-    tag: [u8; BLOCK_LENGTH],
-) -> Option<[u8; BLOCK_LENGTH]>
+// Whether a tag is right, and K0, which shows the entry: no Option, since K0 is promised beside a wrong tag too. Nothing of the entry is worked
+// out here.
+#[derive(Clone, Copy)]
+pub struct Verified {
+    pub genuine: bool,
+    pub k0: [u8; BLOCK_LENGTH],
+}
+
+pub fn verify(t: Triple, front: &[u8], body: &[u8], tag: [u8; BLOCK_LENGTH]) -> Verified
     requires { length front.now % 16 ≡ 0 }
-    ensures { result ≡ then_some (is_genuine t.r t.e1 t.e2 (front.now ++ body.now) tag) (key0 t.r t.e1 t.e2) }
+    ensures genuine_value { result.genuine ≡ is_genuine t.r t.e1 t.e2 (front.now ++ body.now) tag }
+    ensures k0_value { result.k0 ≡ key0 t.r t.e1 t.e2 }
 {
     let keys = derive_keys(t);
     let expected = gf128::tag(keys.k1, front, body, keys.k2);
+    let genuine = gf128::equal(tag, expected);
     let k0 = keys.k0;
-    gf128::equal(tag, expected).then_some(k0)
+    Verified { genuine, k0 }
 }

@@ -22,6 +22,8 @@ pub fn open_with_margin(
     ensures out_after { out.new ≡ open_out key.now sealed.now noise.now out.old }
     ensures open_margin_exact { OpenMarginExact key.now sealed.now noise.now out.old 0 (number result) out.new (given_or 0 result) }
 {
-    let quotients = opening::open_entry(key, sealed, noise, out)?;
-    Ok(margins::largest_size(quotients) as u32)
+    let opened = opening::open_entry(key, sealed, noise, out)?;
+    let answer = opened.answer;
+    answer?;
+    Ok(margins::largest_size(opened.quotients) as u32)
 }

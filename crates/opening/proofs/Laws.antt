@@ -17,18 +17,19 @@ use Rattle.encoding.proofs.Codes.{length-ternary_of}
 use Rattle.triples.specs.Triple.{triple_bytes}
 use Rattle.derivation.specs.Derivation.{under_keystream, entry_of}
 use Rattle.answers.specs.declared.Refusal.{Refusal}
-use Rattle.answers.specs.declared.Refusal.TheVariants.{DecapsulationFailure}
-use Rattle.answers.specs.Answers.{and_then, on_done, Answer, Done}
-use Rattle.records.specs.Records.{record_answer, sealed_entry_answer}
+use Rattle.answers.specs.declared.Refusal.TheVariants.{WrongLength, DecapsulationFailure}
+use Rattle.answers.specs.Answers.{unless, and_then, on_done, Answer, Done}
+use Rattle.records.specs.Records.{body_part, tag_part, record_answer, sealed_entry_answer}
 use Rattle.sealed_records.specs.Front.{sealed_front_answer}
-use Rattle.calls.specs.Calls.{outcome, outcome_answer, outcome_bytes, opened_answer, opened_entry}
-use Rattle.secret_keys.specs.SecretKeys.{is_expanded, layout_answer, KeyElements, parts_of, no_elements, elements_of}
+use Rattle.calls.specs.Calls.{outcome, outcome_answer, outcome_bytes, opened_answer, opened_entry, open_answer}
+use Rattle.secret_keys.specs.SecretKeys.{secret_answer, is_expanded, layout_answer, KeyElements, parts_of, no_elements, elements_of}
 use Rattle.scheme.specs.declared.SecretKey.{SecretKey}
 use Rattle.scheme.specs.declared.Encapsulation.{Encapsulation}
 use Rattle.secret_keys.specs.Read.{spectra_of}
 use Rattle.recovery.specs.Outcomes.{as_triple, answered, outcome_by, quotients_by, decapsulated_by, opened_by, triple_key0}
 use Rattle.answers.proofs.AnswerLaws.{not_done, then-done}
-use Rattle.std.specs.Prelude.{Ok, Err}
+use Rattle.std.specs.Prelude.{Result, Ok, Err}
+use Rattle.opening.specs.Parts.{opened_outcome, read_answer, sealed_answer, entry_fits, entry_read_answer}
 
 -- ---- decapsulation with a key that was read
 
@@ -74,6 +75,31 @@ pub entry-front : (sealed : List ℕ) → sealed_front_answer 1 Done sealed ≡ 
 unfolding sealed_front_answer record_answer
 entry-front sealed = refl
 
+-- ---- 9 and 10 behind what is said before an opening
+
+then_through : {A : Type 0} (a b : Answer) (c : Result A Refusal) → and_then a (and_then b c) ≡ and_then (and_then a b) c
+then_through (Ok _) b c = refl
+then_through (Err r) b c = refl
+
+unless_through : {A : Type 0} (t : Bool) (r : Refusal) (a : Answer) (c : Result A Refusal) → unless t r (and_then a c) ≡ and_then (unless t r a) c
+unless_through true r a c = refl
+unless_through false r a c = refl
+
+pub sealed_said : (k sealed : List ℕ) (version : ℕ) (between : Answer) (noise blocks tag : List ℕ)
+    → sealed_answer k sealed version between noise blocks tag ≡ and_then (read_answer k sealed version between) (opened_answer (opened_outcome k sealed noise) blocks tag)
+sealed_said k sealed version between noise blocks tag =
+    then_through (secret_answer k) (sealed_front_answer version between sealed) (opened_answer (opened_outcome k sealed noise) blocks tag)
+
+pub entry_said : (k sealed noise : List ℕ) (room : ℕ)
+    → open_answer k sealed noise room ≡ and_then (entry_read_answer k sealed noise room) (opened_answer (opened_outcome k sealed noise) (body_part sealed) (tag_part sealed))
+unfolding open_answer
+entry_said k sealed noise room =
+    let key = secret_answer k in
+    let words = sealed_entry_answer sealed in
+    let opened = opened_answer (opened_outcome k sealed noise) (body_part sealed) (tag_part sealed) in
+    ap (unless (entry_fits k sealed noise room) WrongLength) (then_through key words opened)
+    ∙ unless_through (entry_fits k sealed noise room) WrongLength (and_then key words) opened
+
 -- ---- what is written
 
 -- where all is done a triple was found, and its bytes are written
@@ -85,9 +111,11 @@ triple-written a b c failed e =
     absurd (not_done ((then-done c last).0 ((then-done b (and_then c last)).0 ((then-done a (and_then b (and_then c last))).0 e).1).1).1)
 
 -- .. and K0 is its own
-pub entry-written : (a b : Answer) (o : Outcome) (blocks tag body : List ℕ) → opened_by a b o blocks tag ≡ Done
-    → under_keystream (triple_key0 (answered o)) body ≡ opened_entry o body
+pub entry-written : {k0 : List ℕ} (a b : Answer) (o : Outcome) (blocks tag body old : List ℕ) → k0 ≡ triple_key0 (answered o)
+    → let answer = opened_by a b o blocks tag in
+    on_done answer (under_keystream k0 body) old ≡ on_done answer (opened_entry o body) old
 unfolding entry_of
-entry-written a b (found t) blocks tag body e = refl
-entry-written a b failed blocks tag body e =
-    let last = opened_answer failed blocks tag in absurd (not_done ((then-done b last).0 ((then-done a (and_then b last)).0 e).1).1)
+entry-written (Err r) b o blocks tag body old e = refl
+entry-written (Ok _) (Err r) o blocks tag body old e = refl
+entry-written (Ok _) (Ok _) failed blocks tag body old e = refl
+entry-written (Ok _) (Ok _) (found t) blocks tag body old e = rw e

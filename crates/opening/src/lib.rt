@@ -2,13 +2,15 @@
 #![tactic(auto)]
 
 ghost use Rattle.std.specs.Prelude.{◌≡◌, ◌++◌, ◌%◌, ◌≤◌, length};
+ghost use Rattle.derivation.specs.Derivation.{under_keystream};
 ghost use Rattle.answers.specs.Answers.{number, and_then, on_done};
 ghost use Rattle.records.specs.Layout.{third_place, encapsulation_length, triple_length, block_length};
+ghost use Rattle.records.specs.Records.{body_part, tag_part};
 ghost use Rattle.keys.specs.Keys.{triple_noise_length};
 ghost use Rattle.calls.specs.Calls.{decapsulate_answer, decapsulate_out, opened_entry, open_answer, open_out};
 ghost use Rattle.calls.specs.Promises.{DecapsulateExact, OpenExact};
 ghost use Rattle.recovery.specs.Outcomes.{answered, with_parts, recovered_with};
-ghost use Rattle.opening.specs.Parts.{decapsulated_outcome, decapsulated_answer, opened_outcome, opened_quotients, sealed_answer};
+ghost use Rattle.opening.specs.Parts.{decapsulated_outcome, decapsulated_answer, opened_outcome, opened_quotients, read_answer, sealed_answer, opened_with, entry_read_answer};
 
 use answers::{Answer, Refusal};
 use encoding::HEADER_LENGTH;
@@ -72,7 +74,7 @@ fn recover_sealed(
     tag: &[u8],
 ) -> Result<Recovered, Refusal>
     requires { (third_place ≤ length sealed.now) × (length noise.now ≡ triple_noise_length) × (length front.now % 16 ≡ 0) × (length tag.now ≡ block_length) }
-    ensures { result ≡ and_then (sealed_answer key.now sealed.now version between noise.now (front.now ++ body.now) tag.now) (Ok (recovered_with (answered (opened_outcome key.now sealed.now noise.now)) (opened_quotients key.now sealed.now noise.now))) }
+    ensures { result ≡ and_then (read_answer key.now sealed.now version between) (Ok (recovered_with (opened_outcome key.now sealed.now noise.now) (front.now ++ body.now) tag.now (opened_quotients key.now sealed.now noise.now))) }
 {
     let mut forward = [0u16; FACTORS];
     let mut backward = [0u16; FACTORS];
@@ -82,11 +84,29 @@ fn recover_sealed(
     let c = sealed_records::read_sealed(sealed, version, between)?;
     let dummy = keys::noise_triple(noise);
     let t = octets::read_block(tag);
-    recovery::recover(k, c, dummy, front, body, t, &forward, &backward)
+    Ok(recovery::recover(k, c, dummy, front, body, t, &forward, &backward))
+}
+
+// Shows the entry of a body, in a buffer of its length.
+fn write_entry(answer: Answer, k0: [u8; BLOCK_LENGTH], body: &[u8], out: &mut [u8])
+    requires { length body.now ≡ length out.old }
+    ensures { out.new ≡ on_done answer (under_keystream k0 body.now) out.old }
+{
+    if let Ok(()) = answer {
+        derivation::under_keystream(k0, body, out);
+    }
+}
+
+// What is answered of a key and a record that were read, 9 and 10 too, and the quotients w of step 3. They stand beside a refusal too, since w is
+// promised whatever the dummy and the tag; their largest size is shown under 0 only.
+#[derive(Clone, Copy)]
+pub struct OpenedSealed {
+    pub answer: Answer,
+    pub quotients: Quotients,
 }
 
 // `front`, `body` and `tag` are three parts of a record that its caller cuts (a batch in front and body, a single entry in none): a struct of slices
-// would say no more. Shows the entry once the tag is known, in a buffer of the body's length, and gives the quotients w of step 3.
+// would say no more. Shows the entry once the tag is known, in a buffer of the body's length.
 pub fn open_sealed(
     key: &[u8],
     sealed: &[u8],
@@ -97,26 +117,28 @@ pub fn open_sealed(
     body: &[u8],
     tag: &[u8],
     out: &mut [u8],
-) -> Result<Quotients, Refusal>
+) -> Result<OpenedSealed, Refusal>
     requires { (third_place ≤ length sealed.now) × (length noise.now ≡ triple_noise_length) × (length front.now % 16 ≡ 0) × (length tag.now ≡ block_length) × (length body.now ≡ length out.old) }
-    ensures value { result ≡ and_then (sealed_answer key.now sealed.now version between noise.now (front.now ++ body.now) tag.now) (Ok (opened_quotients key.now sealed.now noise.now)) }
+    ensures value { result ≡ and_then (read_answer key.now sealed.now version between) (Ok (opened_with (opened_outcome key.now sealed.now noise.now) (front.now ++ body.now) tag.now (opened_quotients key.now sealed.now noise.now))) }
     ensures out_after { out.new ≡ on_done (sealed_answer key.now sealed.now version between noise.now (front.now ++ body.now) tag.now) (opened_entry (opened_outcome key.now sealed.now noise.now) body.now) out.old }
 {
     let r = recover_sealed(key, sealed, version, between, noise, front, body, tag)?;
-    derivation::under_keystream(r.k0, body, out);
-    Ok(r.quotients)
+    let answer = r.answer;
+    let quotients = r.quotients;
+    write_entry(answer, r.k0, body, out);
+    Ok(OpenedSealed { answer, quotients })
 }
 
 // ---- open
 
-// A sealed entry opened, which gives the quotients of the opening.
+// A sealed entry opened, with the quotients of the opening.
 pub fn open_entry(
     key: &[u8],
     sealed: &[u8],
     noise: &[u8],
     out: &mut [u8],
-) -> Result<Quotients, Refusal>
-    ensures value { result ≡ and_then (open_answer key.now sealed.now noise.now (length out.old)) (Ok (opened_quotients key.now sealed.now noise.now)) }
+) -> Result<OpenedSealed, Refusal>
+    ensures value { result ≡ and_then (entry_read_answer key.now sealed.now noise.now (length out.old)) (Ok (opened_with (opened_outcome key.now sealed.now noise.now) (body_part sealed.now) (tag_part sealed.now) (opened_quotients key.now sealed.now noise.now))) }
     ensures out_after { out.new ≡ open_out key.now sealed.now noise.now out.old }
 {
     let fits = (HEADER_LENGTH <= key.len())
@@ -146,6 +168,6 @@ pub fn open(key: &[u8], sealed: &[u8], noise: &[u8], out: &mut [u8]) -> Answer
     ensures out_after { out.new ≡ open_out key.now sealed.now noise.now out.old }
     ensures open_exact { OpenExact key.now sealed.now noise.now out.old (number result) out.new }
 {
-    open_entry(key, sealed, noise, out)?;
-    Ok(())
+    let opened = open_entry(key, sealed, noise, out)?;
+    opened.answer
 }

@@ -49,9 +49,10 @@ opened_by key sealed o blocks tag = and_then key (and_then sealed (opened_answer
 abbrev pub triple_key0 : Triple → List ℕ
 triple_key0 t = key0 t.r t.e1 t.e2
 
-abbrev pub recovered_with : Triple → (w : List ℤ) → Recovered
-recovered_with t w = record { k0 = triple_key0 t; quotients = w }
+-- what is answered of an outcome, K0 of its triple and w
+abbrev pub recovered_with : (o : Outcome) (blocks tag : List ℕ) (w : List ℤ) → Recovered
+recovered_with o blocks tag w = record { answer = opened_answer o blocks tag; k0 = triple_key0 (answered o); quotients = w }
 
--- what is given of the triple that was found
-abbrev pub recovered_by : (key : SecretKey) (dummy : Declared.Triple) (c : Encapsulation) → Recovered
-recovered_by key dummy c = recovered_with (answered (outcome_by key dummy c)) (quotients_by key dummy c)
+-- .. on every path: where no triple was found, and where the tag is not that of `blocks`
+abbrev pub recovered_by : (key : SecretKey) (dummy : Declared.Triple) (c : Encapsulation) (blocks tag : List ℕ) → Recovered
+recovered_by key dummy c blocks tag = recovered_with (outcome_by key dummy c) blocks tag (quotients_by key dummy c)
