@@ -7,6 +7,11 @@ use native.Mathlib.Decide.{dec_le}
 use native.Mathlib.Omega.{arith}
 use lib.ListN.{length, take, drop, length-append, drop_of_length-le}
 use lib.Seq.{take_all, take-append-le, take-append-add, length-take-le}
+use Rattle.std.proofs.Common.{drop-drop, length-drop}
+use Rattle.std.proofs.lemmas.List.{drop-replicate}
+use Rattle.std.proofs.lemmas.Slice.{drop-put_mid}
+use borrow.Rule.Slice.PartMut.{put_mid, same_len_mid}
+use Rattle.lists.specs.Table.{zeros}
 use Rattle.text.specs.Text.{written}
 
 -- there is room
@@ -54,3 +59,15 @@ put_more most text s e p = p ∙ ap (λ (l : List ℕ). take most (l ++ s)) e �
 pub put_both : (most : ℕ) (before text s : List ℕ) {old new : List ℕ} → old ≡ take most (before ++ text) → new ≡ take most (old ++ s)
     → new ≡ take most (before ++ (text ++ s))
 put_both most before text s e p = put_more most (before ++ text) s e p ∙ ap (take most) (append_assoc before text s)
+
+-- bytes that are put into a buffer, where there is room, leave its length as it was
+pub put-length : (len n : ℕ) (bytes s : List ℕ) → len + n ≤ length bytes → length s ≡ n → length (put_mid len (len + n - len) bytes s) ≡ length bytes
+put-length len n bytes s room size =
+    same_len_mid len (len + n - len) bytes s (omega (arith, size, length-drop len bytes, length-take-le (len + n - len) (drop len bytes) (omega (arith, room, length-drop len bytes))))
+
+-- where zeros stood behind a text, they stand behind what was put there
+pub zeros_behind : (most len n : ℕ) (bytes s : List ℕ) → len ≤ length bytes → length s ≡ n → drop len bytes ≡ zeros (most - len)
+    → drop (len + n) (put_mid len (len + n - len) bytes s) ≡ zeros (most - (len + n))
+zeros_behind most len n bytes s within size behind =
+    drop-put_mid len (len + n - len) bytes s (len + n) (omega arith) within (omega (arith, size))
+    ∙ sym (drop-drop n len bytes) ∙ ap (drop n) behind ∙ drop-replicate n (most - len) 0 ∙ ap zeros (omega arith)
