@@ -89,7 +89,7 @@ fn public_length(input: &[u8]) -> usize
 
 // What is printed: so many bytes of each key to standard output, and a text to standard error.
 // Lengths, and no slices of the lent buffers: the contract says what the whole buffers hold, too.
-#[derive(Drop)]
+#[derive(Clone, Copy)]
 pub struct Printed {
     pub public: usize,
     pub secret: usize,

@@ -58,7 +58,7 @@ fn sealed_of(input: &[u8], sealed: &mut [u8]) -> Answer
 
 // What is printed: so many bytes of the sealed entry to standard output, and a text to standard error.
 // Lengths, and no slices of the lent buffers: the contract says what the whole buffers hold, too.
-#[derive(Drop)]
+#[derive(Clone, Copy)]
 pub struct Printed {
     pub sealed: usize,
     pub error: Text<LINE_LENGTH>,
