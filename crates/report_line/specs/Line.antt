@@ -1,11 +1,13 @@
 -- The line of a file of test vectors, as ASCII bytes.
-use Rattle.std.specs.Prelude.{cond, ◌&&◌, List, [], ◌∷◌, ◌++◌, ℕ, eqb, Result, Ok, Err}
+use Rattle.std.specs.Prelude.{◌≡◌, cond, ◌&&◌, List, [], ◌∷◌, ◌++◌, ℕ, eqb, Result, Ok, Err}
+use Rattle.std.specs.Fn.{Once}
+use denote.Ref.{Bor}
 use Rattle.text.specs.Text.{decimal}
 use Rattle.vectors.specs.declared.Counts.{Counts}
 use Rattle.vectors.specs.declared.MalformedAt.TheVariants.{Byte, Line}
 use Rattle.vectors.specs.declared.FileError.{FileError}
 use Rattle.vectors.specs.declared.FileError.TheVariants.{TooLong, Missing}
-use Rattle.vectors.specs.Answers.{Report}
+use Rattle.vectors.specs.Answers.{Report, bytes_read}
 
 -- ---- texts
 
@@ -40,3 +42,14 @@ file_text (Err Missing) = 109 ∷ 105 ∷ 115 ∷ 115 ∷ 105 ∷ 110 ∷ 103 �
 -- the name, `: `, the text, and a line feed
 unfoldable pub file_line : (name : List ℕ) → Result Report FileError → List ℕ
 file_line name read = name ++ (58 ∷ 32 ∷ []) ++ file_text read ++ (10 ∷ [])
+
+-- ---- from the bytes that were read to the report
+
+-- a closure that gives this report, of any text
+abbrev pub Reports : {F : Type 0} (calls : Once F (Bor (List ℕ) × Unit {0}) Report) (judge : F) (report : List ℕ → Report) → Type 0
+Reports calls judge report = (text : Bor (List ℕ)) (r : Report) → calls.post judge (text, tt) r → r ≡ report text.now
+
+-- the report on the bytes that were read, or why none were
+abbrev pub judged_file : (report : List ℕ → Report) → Result ℕ FileError → (buffer : List ℕ) → Result Report FileError
+judged_file report (Ok n) buffer = Ok (report (bytes_read (Ok n) buffer))
+judged_file report (Err error) buffer = Err error

@@ -2,8 +2,9 @@
 // wrong with the file.
 #![tactic(auto)]
 
-ghost use Rattle.std.specs.Prelude.{◌≡◌, ◌++◌, take};
-ghost use Rattle.report_line.specs.Line.{malformed_text, counts_text, report_text, file_text, file_line};
+ghost use Rattle.std.specs.Prelude.{◌≡◌, List, ℕ, ◌++◌, take};
+ghost use Rattle.vectors.specs.Answers.{Report};
+ghost use Rattle.report_line.specs.Line.{malformed_text, counts_text, report_text, file_text, file_line, Reports, judged_file};
 
 use std::io;
 use std::rt::Files;
@@ -74,7 +75,23 @@ pub fn print(out: &impl Print, name: &[u8], read: Result<Report, FileError>) -> 
     out.write_all(line(name, read).as_bytes())
 }
 
-// Works through one file and prints its line.
+// What is said of a file that was read into the front of a buffer: the report that `judge` gives of its bytes, or why it was not read.
+fn judged_file<J: FnOnce(&[u8]) -> Report>(
+    read: Result<usize, FileError>,
+    buffer: &[u8],
+    judge: J,
+) -> Result<Report, FileError>
+    requires { J.IsAlwaysCallable judge }
+    ensures { (report : List ℕ → Report) → Reports J.FnOnce judge report → result ≡ judged_file report read buffer.now }
+{
+    match read {
+        Ok(_) => Ok(judge(vectors::read_bytes(read, buffer))),
+        Err(e) => Err(e),
+    }
+}
+
+// Works through one file and prints its line. What a file holds and what is printed no contract can say; what is made of the bytes between
+// the two is said by `judged_file` and `line`.
 pub fn check_file<J: FnOnce(&[u8]) -> Report>(
     rt: &(impl Files + Print),
     name: &[u8],
@@ -83,9 +100,6 @@ pub fn check_file<J: FnOnce(&[u8]) -> Report>(
     requires { J.IsAlwaysCallable judge }
 {
     let mut buffer = vectors::file_buffer();
-    let read = match vectors::read_file(rt, name, &mut buffer) {
-        Ok(n) => Ok(judge(&buffer[..n])),
-        Err(e) => Err(e),
-    };
-    print(rt, name, read)
+    let read = vectors::read_file(rt, name, &mut buffer);
+    print(rt, name, judged_file(read, &buffer, judge))
 }

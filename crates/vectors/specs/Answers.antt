@@ -1,5 +1,5 @@
 -- What the answers mean.
-use Rattle.std.specs.Prelude.{◌≡◌, Bool, cond, List, [], ◌∷◌, ℕ, ◌+◌, min, drop, bytes_eq, Result, Ok, Err}
+use Rattle.std.specs.Prelude.{◌≡◌, Bool, cond, List, [], ◌∷◌, ℕ, ◌+◌, min, take, drop, bytes_eq, Result, Ok, Err}
 use Rattle.std.specs.Fn.{Shared, AnyResult}
 use denote.Ref.{Bor}
 use Rattle.vectors.specs.Fields.{places}
@@ -8,6 +8,7 @@ use Rattle.vectors.specs.declared.Verdict.TheVariants.{Agreed, Differed, Malform
 use Rattle.vectors.specs.declared.Counts.{Counts}
 use Rattle.vectors.specs.declared.MalformedAt.{MalformedAt}
 use Rattle.vectors.specs.declared.MalformedAt.TheVariants.{Byte}
+use Rattle.vectors.specs.declared.FileError.{FileError}
 
 -- whether two lists are the same
 abbrev pub is_same : (a b : List ℕ) → Bool
@@ -16,6 +17,11 @@ is_same a b = bytes_eq a b
 -- the verdict by whether a case is sound, and whether it agrees
 abbrev pub verdict_of : Bool → Bool → Verdict
 verdict_of sound agrees = cond sound (cond agrees Agreed Differed) Malformed
+
+-- the bytes that were read
+abbrev pub bytes_read : Result ℕ FileError → List ℕ → List ℕ
+bytes_read (Ok n) buffer = take n buffer
+bytes_read (Err error) buffer = []
 
 -- one more, as far as a word of 64 bits goes
 abbrev pub one_more : ℕ → ℕ

@@ -3,7 +3,7 @@
 ghost use Rattle.std.specs.Prelude.{◌≡◌, List, ℕ, ◌+◌, ◌≤◌, ◌<◌, length, replicate, IfOk};
 ghost use Rattle.lists.specs.Table.{zeros};
 ghost use Rattle.vectors.specs.Fields.{word32, end_from, start, field, has_field, is_sized, after_case, places};
-ghost use Rattle.vectors.specs.Answers.{is_same, verdict_of, one_more, counted, Adds, Judges, tally, report};
+ghost use Rattle.vectors.specs.Answers.{is_same, verdict_of, bytes_read, one_more, counted, Adds, Judges, tally, report};
 
 use std::fs;
 use std::io::Read;
@@ -257,4 +257,14 @@ pub fn read_file(files: &impl Files, name: &[u8], buffer: &mut [u8]) -> Result<u
         return Err(FileError::Missing);
     };
     read_open(&mut file, buffer)
+}
+
+// The bytes of a file that was read into the front of a buffer; none where it was not.
+pub fn read_bytes(read: Result<usize, FileError>, buffer: &[u8]) -> &[u8]
+    ensures { result.now ≡ bytes_read read buffer.now }
+{
+    match read {
+        Ok(n) => &buffer[..n.min(buffer.len())],
+        Err(_) => &buffer[..0],
+    }
 }
