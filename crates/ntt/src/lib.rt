@@ -7,7 +7,6 @@ ghost use Rattle.algebra.specs.Numbers.{mul_mod, Below, reduced, scale};
 ghost use Rattle.ntt.specs.Spectrum.{q, degree, inverse_degree, spectrum_of, coefficients_of, pointwise};
 ghost use Rattle.ntt.specs.Factors.{forward_factors, backward_factors, backward_layers};
 
-use std::array;
 pub use twiddles::{DEGREE, FACTORS, backward_factors, forward_factors};
 use twiddles::{HALF, LAYERS};
 
@@ -26,7 +25,11 @@ pub type Spectrum = [u16; DEGREE];
 fn reduced(a: Element) -> Element
     ensures { result ≡ reduced q degree a }
 {
-    array::from_fn(|i| modq::reduce(a[i]))
+    let mut r = [0u16; DEGREE];
+    for i in 0..DEGREE {
+        r[i] = modq::reduce(a[i]);
+    }
+    r
 }
 
 // The value of a at each root of X^1024 + 1. Two layers a turn, to and fro between two arrays.
@@ -99,7 +102,11 @@ fn multiply(x: u16, y: u16) -> u16
 pub fn pointwise(a: Spectrum, b: Spectrum) -> Spectrum
     ensures { result ≡ pointwise a b }
 {
-    array::from_fn(|i| multiply(a[i], b[i]))
+    let mut r = [0u16; DEGREE];
+    for i in 0..DEGREE {
+        r[i] = multiply(a[i], b[i]);
+    }
+    r
 }
 
 // The same, divided by 1024: 36794 is 2^22 modulo q, so the first product is Montgomery's form of x / 1024.
@@ -112,7 +119,11 @@ fn divided_product(x: u16, y: u16) -> u16
 fn divided_pointwise(a: Spectrum, b: Spectrum) -> Spectrum
     ensures { result ≡ scale q degree inverse_degree (pointwise a b) }
 {
-    array::from_fn(|i| divided_product(a[i], b[i]))
+    let mut r = [0u16; DEGREE];
+    for i in 0..DEGREE {
+        r[i] = divided_product(a[i], b[i]);
+    }
+    r
 }
 
 // The polynomial whose values are the products of those in a and b. The division by 1024 is part of these products.

@@ -1,6 +1,5 @@
 // The ring of document 01: polynomials with coefficients modulo q = 59,393 and X^1024 = - 1, as arrays of 1,024 words by value.
-// Every word is taken as its residue modulo q, and the public functions are total. A result that is put
-// together place by place is built up from 1,024 zeros.
+// Every word is taken as its residue modulo q, and the public functions are total. A result is built up from 1,024 zeros.
 // The reciprocals of a spectrum, and the test whether there are any, are those of crate reciprocals.
 #![tactic(auto)]
 
@@ -16,7 +15,6 @@ ghost use Rattle.ring.specs.Division.{DivisionExact};
 use modq::Q;
 use ntt::{DEGREE, Element, FACTORS, Spectrum};
 pub use reciprocals::{has_zero, reciprocals};
-use std::array;
 
 // ---- sums and multiples, word by word: of spectra they are the spectra of sums and multiples
 
@@ -31,13 +29,21 @@ pub fn one() -> Element
 pub fn sum(a: Element, b: Element) -> Element
     ensures { result ≡ sum a b }
 {
-    array::from_fn(|k| modq::add(a[k], b[k]))
+    let mut r = [0u16; DEGREE];
+    for k in 0..DEGREE {
+        r[k] = modq::add(a[k], b[k]);
+    }
+    r
 }
 
 pub fn difference(a: Element, b: Element) -> Element
     ensures { result ≡ difference a b }
 {
-    array::from_fn(|k| modq::sub(a[k], b[k]))
+    let mut r = [0u16; DEGREE];
+    for k in 0..DEGREE {
+        r[k] = modq::sub(a[k], b[k]);
+    }
+    r
 }
 
 // c × a.

@@ -11,7 +11,6 @@ ghost use Rattle.sampling.specs.Stream.{taken, uniform_element};
 
 use modq::Q;
 use ntt::{DEGREE, Element};
-use std::array;
 
 // The bytes that a ternary polynomial is read from: two coefficients a byte.
 pub const NOISE_LENGTH: usize = DEGREE / 2;
@@ -69,7 +68,11 @@ fn signed_noise(bytes: &[u8]) -> [i16; DEGREE]
 fn coefficients(values: [i16; DEGREE]) -> Element
     ensures { result ≡ map residue values }
 {
-    array::from_fn(|i| ring::residue(values[i]))
+    let mut t = [0u16; DEGREE];
+    for i in 0..DEGREE {
+        t[i] = ring::residue(values[i]);
+    }
+    t
 }
 
 // The ternary polynomial of the first 512 bytes, two coefficients a byte. Missing bytes count as zeros.

@@ -41,7 +41,11 @@ pub fn scaled(w: u16, a: [u16; DEGREE]) -> [u16; DEGREE]
     requires { w < q }
     ensures { result ≡ scale q degree (from_montgomery w) a }
 {
-    array::from_fn(|i| modq::montgomery_product(w, a[i]))
+    let mut r = [0u16; DEGREE];
+    for i in 0..DEGREE {
+        r[i] = modq::montgomery_product(w, a[i]);
+    }
+    r
 }
 
 // ---- the factors of the layers

@@ -1,9 +1,18 @@
-use Rattle.ntt.specs.Spectrum.{degree}
-use Rattle.lists.proofs.FromFn.{from_fn-table}
+use mathlib.Core.Path.{sym, ◌∙◌}
+use Rattle.lists.proofs.Fill.{filled_none, filled_more, filled-all}
+use Rattle.algebra.proofs.Elements as El
+use Rattle.ntt.specs.Spectrum.{q, degree}
+use Rattle.modq.proofs.Prime.{q-positive}
 use borrow.Author.Rules.{rules}
 use Rattle.ntt.proofs.reduced.Goals as goal
-use Rattle.algebra.specs.Numbers.{reduced}
+
+pub loop-i-init : goal.loop-i-init
+loop-i-init c = filled_none _ _ (El.reduced-element q q-positive degree _).size (search rules)
+
+pub loop-i-preserved : goal.loop-i-preserved
+loop-i-preserved c =
+    let start = c in
+    filled_more 0 start.loop-i.invariant (search rules) (c.reduce.ensures ∙ sym (El.reduced-at q q-positive degree _ start.loop-i.i (search rules)))
 
 pub returns : goal.returns
-unfolding reduced
-returns c = from_fn-table _ _ _ c.from_fn.result degree 0 (λ k y q h call. search rules) c.from_fn.ensures.items
+returns c = filled-all c.loop-i.invariant (search rules)

@@ -1,0 +1,10 @@
+use Prim.Native.Nat.{◌-◌}
+use Rattle.lists.proofs.Fill.{Filled}
+use Rattle.ntt.specs.Spectrum.{pointwise}
+use Rattle.ntt.proofs.pointwise.Given as goal
+
+abbrev pub invariant-loop-i : goal.invariant-loop-i
+invariant-loop-i l = Filled 1024 (pointwise l.a l.b) l.r l.i
+
+abbrev pub decreases-loop-i : goal.decreases-loop-i
+decreases-loop-i l = 1024 - l.i
