@@ -87,13 +87,16 @@ fn block_factors(e: [u16; DEGREE]) -> [u16; DEGREE]
     array::from_fn(|m| t[(e[m] % DEGREE_U16) as usize])
 }
 
-// The factors of the n blocks of a layer, where n is the length of w.
+// The factors of the n blocks of a layer, where n is the length of w. By index: what the compiler makes of a copy from a slice asks the archive's
+// surroundings for memmove, and include/polka.h says that it needs memcpy and memset alone.
 fn first_factors(w: &mut [u16], f: &[u16])
     requires { length w.old + length w.old ≤ length f.now }
     ensures { w.new ≡ take (length w.old) (drop (length w.old) f.now) }
 {
     let n = w.len();
-    w.copy_from_slice(&f[n..n + n]);
+    for i in 0..n {
+        w[i] = f[n + i];
+    }
 }
 
 // Copies the first half to the second.
