@@ -50,11 +50,13 @@
  * 0.6: adds expanded secret keys, polka_expand_secret_key and polka_compact_secret_key, the number 13, POLKA_INVERSE_MISMATCH, and the part
  * POLKA_PART_STORED_INVERSE. The calls that are lent a secret key take either version, and tell its mark and version, 2 and 3, before a
  * length that is not its version's; only one under 5 bytes is still 1 before them. Before, every other length was 1 first.
- * 0.7: adds polka_open_with_margin and POLKA_LARGEST_MARGIN. What was there before answers as it did. */
+ * 0.7: adds polka_open_with_margin and POLKA_LARGEST_MARGIN. What was there before answers as it did.
+ * 0.8: the calls take more stack, all but the two of SHAKE, and their POLKA_.._STACK say so. Who gives a thread that much must compile anew.
+ * All calls answer as they did. */
 #define POLKA_VERSION_MAJOR 0
-#define POLKA_VERSION_MINOR 7
+#define POLKA_VERSION_MINOR 8
 #define POLKA_VERSION_PATCH 0
-#define POLKA_VERSION "0.7.0"
+#define POLKA_VERSION "0.8.0"
 
 /* The compiler warns where an answer is not looked at. */
 #if (defined(__cplusplus) && __cplusplus >= 201703L) || (defined(__STDC_VERSION__) && __STDC_VERSION__ >= 202311L)
