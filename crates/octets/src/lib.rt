@@ -39,12 +39,16 @@ pub fn word64_at(b: &[u8], at: usize) -> u64
     ])
 }
 
-// Copies what is lent to a buffer of the same length.
+// Copies what is lent to a buffer of the same length. By index: what the compiler makes of the library's copy between two lent slices asks the
+// archive's surroundings for memmove, and include/polka.h says that it needs memcpy and memset alone.
 pub fn copy(from: &[u8], out: &mut [u8])
     requires { length from.now ≡ length out.old }
     ensures { out.new ≡ from.now }
 {
-    out.copy_from_slice(from);
+    let n = from.len();
+    for i in 0..n {
+        out[i] = from[i];
+    }
 }
 
 // ---- blocks of 16 bytes: entries, bodies and tags

@@ -87,8 +87,8 @@ fn block_factors(e: [u16; DEGREE]) -> [u16; DEGREE]
     array::from_fn(|m| t[(e[m] % DEGREE_U16) as usize])
 }
 
-// The factors of the n blocks of a layer, where n is the length of w. By index: what the compiler makes of a copy from a slice asks the archive's
-// surroundings for memmove, and include/polka.h says that it needs memcpy and memset alone.
+// The factors of the n blocks of a layer, where n is the length of w. By index, as `octets::copy`: the library's copy makes the archive ask
+// for memmove.
 fn first_factors(w: &mut [u16], f: &[u16])
     requires { length w.old + length w.old ≤ length f.now }
     ensures { w.new ≡ take (length w.old) (drop (length w.old) f.now) }
