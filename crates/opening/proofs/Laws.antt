@@ -1,5 +1,5 @@
 -- A key that was read, equal parts of an answer, and what is written.
-use mathlib.Core.Path.{◌≡◌, refl, ap, ap₂, ◌∙◌}
+use mathlib.Core.Path.{◌≡◌, refl, sym, ap, ap₂, ◌∙◌}
 use mathlib.Core.Bool.{Bool, false, true}
 use mathlib.Core.List.{List}
 use Prim.Native.Nat.{ℕ}
@@ -27,8 +27,9 @@ use Rattle.scheme.specs.declared.SecretKey.{SecretKey}
 use Rattle.scheme.specs.declared.Encapsulation.{Encapsulation}
 use Rattle.secret_keys.specs.Read.{spectra_of}
 use Rattle.recovery.specs.Outcomes.{as_triple, answered, outcome_by, quotients_by, decapsulated_by, opened_by, triple_key0}
-use Rattle.answers.proofs.AnswerLaws.{not_done, then-done}
-use Rattle.std.specs.Prelude.{Result, Ok, Err}
+use Rattle.answers.proofs.AnswerLaws.{not_done, then-done, unless-then}
+use Rattle.secret_keys.proofs.Joined.{then-assoc}
+use Rattle.std.specs.Prelude.{Ok, Err}
 use Rattle.opening.specs.Parts.{opened_outcome, read_answer, sealed_answer, entry_fits, entry_read_answer}
 
 -- ---- decapsulation with a key that was read
@@ -77,18 +78,10 @@ entry-front sealed = refl
 
 -- ---- 9 and 10 behind what is said before an opening
 
-then_through : {A : Type 0} (a b : Answer) (c : Result A Refusal) → and_then a (and_then b c) ≡ and_then (and_then a b) c
-then_through (Ok _) b c = refl
-then_through (Err r) b c = refl
-
-unless_through : {A : Type 0} (t : Bool) (r : Refusal) (a : Answer) (c : Result A Refusal) → unless t r (and_then a c) ≡ and_then (unless t r a) c
-unless_through true r a c = refl
-unless_through false r a c = refl
-
 pub sealed_said : (k sealed : List ℕ) (version : ℕ) (between : Answer) (noise blocks tag : List ℕ)
     → sealed_answer k sealed version between noise blocks tag ≡ and_then (read_answer k sealed version between) (opened_answer (opened_outcome k sealed noise) blocks tag)
 sealed_said k sealed version between noise blocks tag =
-    then_through (secret_answer k) (sealed_front_answer version between sealed) (opened_answer (opened_outcome k sealed noise) blocks tag)
+    sym (then-assoc (secret_answer k) (sealed_front_answer version between sealed) (opened_answer (opened_outcome k sealed noise) blocks tag))
 
 pub entry_said : (k sealed noise : List ℕ) (room : ℕ)
     → open_answer k sealed noise room ≡ and_then (entry_read_answer k sealed noise room) (opened_answer (opened_outcome k sealed noise) (body_part sealed) (tag_part sealed))
@@ -97,8 +90,12 @@ entry_said k sealed noise room =
     let key = secret_answer k in
     let words = sealed_entry_answer sealed in
     let opened = opened_answer (opened_outcome k sealed noise) (body_part sealed) (tag_part sealed) in
-    ap (unless (entry_fits k sealed noise room) WrongLength) (then_through key words opened)
-    ∙ unless_through (entry_fits k sealed noise room) WrongLength (and_then key words) opened
+    let fits = entry_fits k sealed noise room in
+    let read = and_then key words in
+    ap (unless fits WrongLength) (sym (then-assoc key words opened))
+    ∙ sym (unless-then fits WrongLength (and_then read opened))
+    ∙ sym (then-assoc (unless fits WrongLength Done) read opened)
+    ∙ ap (λ (a : Answer). and_then a opened) (unless-then fits WrongLength read)
 
 -- ---- what is written
 

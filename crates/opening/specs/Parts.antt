@@ -29,7 +29,7 @@ abbrev pub opened_quotients : (key sealed noise : List ℕ) → List ℤ
 opened_quotients k sealed noise =
     quotients (step2 (elements_of k).a (elements_of k).b (elements_of k).s (noise_triple noise) (first_of sealed) (second_of sealed))
 
--- what is said of key and record before an opening: 1 to 8 and 11 to 13
+-- what is said of key and record before an opening: all that is no 9 and no 10
 abbrev pub read_answer : (key sealed : List ℕ) (version : ℕ) (between : Answer) → Answer
 read_answer k sealed version between = and_then (secret_answer k) (sealed_front_answer version between sealed)
 
