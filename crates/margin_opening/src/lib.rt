@@ -3,12 +3,22 @@
 #![tactic(auto)]
 
 ghost use Rattle.std.specs.Prelude.{◌≡◌, length};
+ghost use Rattle.margins.specs.Largest.{largest_size};
 ghost use Rattle.answers.specs.Answers.{number, and_then, given_or};
 ghost use Rattle.calls.specs.Calls.{open_answer, open_out};
 ghost use Rattle.margin_calls.specs.Calls.{open_margin};
 ghost use Rattle.margin_calls.specs.Promises.{OpenMarginExact};
 
-use answers::Refusal;
+use answers::{Answer, Refusal};
+use ring::Quotients;
+
+// The margin of an opening, where that is done.
+fn margin_of(answer: Answer, quotients: Quotients) -> Result<u32, Refusal>
+    ensures { result ≡ and_then answer (Ok (largest_size quotients)) }
+{
+    answer?;
+    Ok(margins::largest_size(quotients) as u32)
+}
 
 // entry as `open` gives it, and margin = max |w_k| where m = E2 + 5 × w. The margin hangs on the dummy and belongs to the desk's secret side: it
 // tells of the secret key and of the triple. SEALED_ENTRY_LENGTH bytes give BLOCK_LENGTH.
@@ -23,7 +33,5 @@ pub fn open_with_margin(
     ensures open_margin_exact { OpenMarginExact key.now sealed.now noise.now out.old 0 (number result) out.new (given_or 0 result) }
 {
     let opened = opening::open_entry(key, sealed, noise, out)?;
-    let answer = opened.answer;
-    answer?;
-    Ok(margins::largest_size(opened.quotients) as u32)
+    margin_of(opened.answer, opened.quotients)
 }

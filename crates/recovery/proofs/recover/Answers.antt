@@ -1,16 +1,13 @@
 use mathlib.Core.Path.{ap, ap₂, ◌∙◌}
 use mathlib.Core.Bool.{Bool}
-use mathlib.Core.List.{List, ◌++◌}
-use Prim.Native.Nat.{ℕ}
-use lib.IntN.{ℤ}
+use mathlib.Core.List.{◌++◌}
 use Rattle.std.specs.Prelude.{is_some, unwrap_or}
-use Rattle.lists.proofs.Equal.{ap₃}
+use Rattle.std.proofs.Common.{rules}
 use Rattle.scheme.specs.declared.Triple as Declared
 use Rattle.scheme.specs.declared.Decapsulation.{Decapsulation}
 use Rattle.derivation.specs.Derivation.{is_genuine, key0}
 use Rattle.answers.specs.declared.Refusal.TheVariants.{DecapsulationFailure, TagMismatch}
-use Rattle.answers.specs.Answers.{unless, and_then, Answer, Done}
-use Rattle.recovery.specs.declared.Recovered.{Recovered}
+use Rattle.answers.specs.Answers.{unless, and_then, Done}
 use Rattle.recovery.specs.Outcomes.{outcome_by, quotients_by}
 use Rattle.recovery.proofs.Laws.{no_triple, found-answer, found_triple, found-quotients, and_is_then, verified-answer}
 use Rattle.recovery.proofs.recover.Goals as goal
@@ -30,4 +27,4 @@ returns c =
     let answer = c.and-answer.ensures ∙ and_is_then c.unless-found.result c.unless-genuine.result ∙ ap₂ and_then first second ∙ verified-answer o blocks args.tag in
     let k0 = c.verify-v.ensures.k0_value ∙ ap (λ (t : Declared.Triple). key0 t.r t.e1 t.e2) t in
     let quotients = ap (λ (d : Decapsulation). d.quotients) made ∙ found-quotients w o in
-    ap₃ (λ (a : Answer) (k : List ℕ) (w : List ℤ). let r : Recovered = record { answer = a; k0 = k; quotients = w } in r) answer k0 quotients
+    search (rules, answer, k0, quotients)
